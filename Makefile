@@ -1,0 +1,7 @@
+# make test: the whole check. Its last line is 'N passed, 0 failed'.
+
+.PHONY: test
+
+test:
+	rt fmt --check
+	rt ci

@@ -1,0 +1,9 @@
+pub mod Tests
+pub mod SetLaws
+pub mod OrderLaws
+pub mod TableLaws
+pub mod UniqueLaws
+pub mod RowLaws
+pub mod FormLaws
+pub mod WalkLaws
+pub mod LoopLaws
