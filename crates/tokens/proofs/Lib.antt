@@ -3,6 +3,7 @@ pub mod SetLaws
 pub mod OrderLaws
 pub mod TableLaws
 pub mod UniqueLaws
+pub mod BlankLaws
 pub mod RowLaws
 pub mod FormLaws
 pub mod WalkLaws

@@ -1,0 +1,14 @@
+pub mod RunLaws
+pub mod StepLaws
+pub mod CoverLaws
+pub mod EarnsLaws
+pub mod HeldLaws
+pub mod RoundLaws
+pub mod ExactLaws
+pub mod StopLaws
+pub mod SpentLaws
+pub mod RoundsLaws
+pub mod ClosingLaws
+pub mod TidyLaws
+pub mod MoreLaws
+pub mod Examples
