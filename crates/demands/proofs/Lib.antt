@@ -1,0 +1,12 @@
+pub mod RowFacts
+pub mod Spelling
+pub mod ExactFacts
+pub mod RoundFacts
+pub mod CallLaws
+pub mod SavedLaws
+pub mod WhyLaws
+pub mod DecideLaws
+pub mod Demands
+pub mod Examples
+pub mod AtWork
+pub mod Idle

@@ -1,0 +1,13 @@
+pub mod Readings
+pub mod ParseLaws
+pub mod PrintLaws
+pub mod LimitLaws
+pub mod RowLaws
+pub mod CallerLaws
+pub mod Examples
+pub mod ListLaws
+pub mod ScanLaws
+pub mod HeadLaws
+pub mod ViewLaws
+pub mod RuleLaws
+pub mod OrderLaws
