@@ -43,7 +43,7 @@ record Computed : Type 0 where
   second : order 6 (3 ∷ 4 ∷ []) ≡ read (kind 3 ∷ kind 4 ∷ [])
 
 computed : Computed
-unfolding Q Q-clauses Q-rows sevens pad rec counts empty included zip minus join plus over before every covered without place insert placed put pairwise ascends separate apart blank-from well-formed rows lay area sums opened openedAll ways is-kind code codeAt parse parseAt within runs-within padded climbs front head body rule records program goals order one set-of branch-rows order-rows opening opened-rule opened-order after each fitting hold meet weave holding grown offer step round next closing close answer check between kinds-fit capacity-fits rounds-fit table-needs work-needs areas-fit rules-fit rows-fit with-rules saved limits ended closing-of asked asking-of laid table-after
+unfolding Q Q-clauses Q-rows sevens pad rec counts empty included zip minus join plus over before every covered without place insert placed put pairwise ascends separate apart blank-from well-formed rows lay area sums opened openedAll ways is-kind code codeAt parse parseAt within runs-within padded climbs front head body rule records program goals order one set-of branch-rows order-rows opening opened-rule opened-order after each fitting hold meet weave holding grown offer step round next closing close answer check between kinds-fit capacity-fits rounds-fit table-needs work-needs areas-fit rules-fit rows-fit with-rules saved ended closing-of asked asking-of laid table-after
 computed = record { closes = refl; spelled = refl; yes = refl; no = refl; first = refl; second = refl }
 
 decided : Decides Q 6 kept

@@ -28,7 +28,6 @@ module _ (rules : List ℕ) (n capacity permitted tl wl : ℕ) (t : List (List �
   tidy = rounds-tidy (limits capacity) n (map opening (c .P)) (sized (c .P)) (heads-blank n (c .P) (spelt n rules (c .P) (c .admitted .spelled))) g t (c .closed .reached .finished)
 
   fits : length t ≤ capacity
-  unfolding limits
   fits = tidy .fits
 
   abbrev sizes : Bool

@@ -202,5 +202,5 @@ no-goals-no rules n capacity permitted table work c e =
     a .1 ∙ ap given (refuted (a .0) no)
 
 pub examples-hold : AllHold examples
-unfolding Q P Q-clauses P-clauses Ladder Broad Q-rows P-rows ladder-rows Broad-rows bytes closed grows sevens pad rec counts four five empty included zip minus join plus over before every covered without place insert placed put pairwise ascends separate apart blank-from well-formed rows lay area sums opened openedAll ways is-kind code codeAt parse parseAt within runs-within padded climbs front head body rule records program goals order one set-of branch-rows order-rows opening opened-rule opened-order after each fitting hold meet weave holding grown offer step round next closing close answer check between kinds-fit capacity-fits rounds-fit table-needs work-needs areas-fit rules-fit rows-fit with-rules saved limits ended closing-of rounded rounding-of asked asking-of laid spoilt table-after work-after
+unfolding Q P Q-clauses P-clauses Ladder Broad Q-rows P-rows ladder-rows Broad-rows bytes closed grows sevens pad rec counts four five empty included zip minus join plus over before every covered without place insert placed put pairwise ascends separate apart blank-from well-formed rows lay area sums opened openedAll ways is-kind code codeAt parse parseAt within runs-within padded climbs front head body rule records program goals order one set-of branch-rows order-rows opening opened-rule opened-order after each fitting hold meet weave holding grown offer step round next closing close answer check between kinds-fit capacity-fits rounds-fit table-needs work-needs areas-fit rules-fit rows-fit with-rules saved ended closing-of rounded rounding-of asked asking-of laid spoilt table-after work-after
 examples-hold = (refl, (refl, (refl, (refl, (refl, (refl, (refl, (refl, (refl, (refl, (refl, (no-goals-no, (refl, (refl, (refl, (refl, (refl, (refl, (refl, (refl, (refl, (refl, ((refl, refl), ((refl, refl), ((refl, refl), (refl, (refl, (refl, (refl, tt)))))))))))))))))))))))))))))

@@ -54,7 +54,7 @@ record Computed : Type 0 where
   Q-no : asking-of (bytes Q-rows) 6 (3 ∷ 4 ∷ []) ≡ given false
 
 computed : Computed
-unfolding Q Q-clauses Q-rows Flat Chain bytes sevens counted pad rec counts empty included zip minus join plus over before every covered without place insert placed put pairwise ascends separate apart blank-from well-formed rows lay area sums opened openedAll ways is-kind code codeAt parse parseAt within runs-within padded climbs front head body rule records program goals order one set-of branch-rows order-rows opening opened-rule opened-order after each fitting hold meet weave holding grown offer step round next closing close answer rounds check between kinds-fit capacity-fits rounds-fit table-needs work-needs areas-fit rules-fit rows-fit with-rules saved limits ended closing-of asked asking-of laid table-after work-after
+unfolding Q Q-clauses Q-rows Flat Chain bytes sevens counted pad rec counts empty included zip minus join plus over before every covered without place insert placed put pairwise ascends separate apart blank-from well-formed rows lay area sums opened openedAll ways is-kind code codeAt parse parseAt within runs-within padded climbs front head body rule records program goals order one set-of branch-rows order-rows opening opened-rule opened-order after each fitting hold meet weave holding grown offer step round next closing close answer rounds check between kinds-fit capacity-fits rounds-fit table-needs work-needs areas-fit rules-fit rows-fit with-rules saved ended closing-of asked asking-of laid table-after work-after
 computed = record { Q-closed = refl; Q-answer = refl; Q-table = refl; Q-work = refl; Q-spelled = refl; Q-first = refl; Q-first-laid = refl; Q-closed-laid = refl; Flat-answer = refl; Chain-answer = refl; same-length = refl; Q-yes = refl; Q-no = refl }
 
 -- ---- closing (demand 2)

@@ -1,5 +1,5 @@
 -- What is known of clauses that rule bytes spell, and of the rules into which they open.
-use Prim.Native.Nat.{ℕ, suc, _≤_, _<_}
+use Prim.Native.Nat.{ℕ, suc, _+_, _≤_, _<_}
 use native.Mathlib.Omega.{arith}
 use mathlib.Core.Bool.{true}
 use mathlib.Core.Path.{_≡_, sym, ap, subst, fun-ext, _∙_}
@@ -12,11 +12,12 @@ use Rattle.logic.specs.Facts.{occ}
 use Rattle.logic.specs.Goals.{Clause, _∈_}
 use Rattle.logic.proofs.Multisets.{mem-map-cases}
 use Rattle.logic.proofs.FewKinds.{Below, HeadsBelow}
+use Rattle.tokens.proofs.BlankLaws.{at-blank}
 use Rattle.goals.specs.Codes.{is-kind}
 use Rattle.goals.specs.Readings.{read, clauses, program}
 use Rattle.goals.specs.Sets.{set-of, opening}
 use Rattle.goals.specs.Printing.{below}
-use Rattle.goals.proofs.RowLaws.{length-set-of, set-of-fact, set-of-from, branch-wide, blank-at}
+use Rattle.goals.proofs.RowLaws.{length-set-of, set-of-fact, set-of-from, branch-wide}
 use Rattle.goals.proofs.CallerLaws.{rule-printed, program-read}
 use Rattle.rounds.specs.Round.{Rule}
 use Rattle.rounds.proofs.RoundLaws.{Sized}
@@ -56,7 +57,7 @@ module _ (n : ℕ) (P : List Clause) (known : (c : Clause) → c ∈ P → Spelt
   unfolding opening
   heads-blank = mem-every (λ rule. blank-from n (rule .head)) (map opening P) (λ rule m.
       let r = mem-map-cases opening P m in
-      ap (λ (q : Rule). blank-from n (q .head)) (r .2) ∙ blank-at n (set-of (r .0 .head)) (set-of-from n (r .0 .head) (known (r .0) (r .1) .heads)))
+      ap (λ (q : Rule). blank-from n (q .head)) (r .2) ∙ at-blank n (set-of (r .0 .head)) (λ k. set-of-from n (r .0 .head) (known (r .0) (r .1) .heads) (n + k) (omega arith)))
 
 -- heads and branches are rows of 32 counts
 pub sized : (P : List Clause) → Sized (map opening P)

@@ -54,7 +54,6 @@ over-some m (x ∷ a) e = ⊎-elim (λ p. (0, ltb-true m x p)) (λ p. let r = ov
 
 pub stops-why : (n : ℕ) (P : List Clause) → ((c : Clause) → c ∈ P → Spelt n c) → (capacity permitted number g : ℕ) (r : Refused (limits capacity) (map opening P) permitted number g)
     → Why P (r .table) permitted g number
-unfolding limits
 stops-why n P known capacity permitted number g r = go number (round-reasons (limits capacity) (eqb g permitted) (map opening P) (r .table) number (r .stops))
   where
     -- the table does not cover it
