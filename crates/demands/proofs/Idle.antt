@@ -18,7 +18,8 @@ use Rattle.goals.specs.Sets.{one, set-of, branch-rows, order-rows, opening, ope
 use Rattle.goals.proofs.Examples.{pad, rec, counts}
 use Rattle.rounds.specs.Round.{limits, going, after, each, fitting, hold, meet, weave, holding, grown, offer, step, round, next, closing, close, answer, rounds}
 use Rattle.table.specs.Calls.{given, refused, check, between, kinds-fit, capacity-fits, rounds-fit, table-needs, work-needs, areas-fit, rules-fit, rows-fit, with-rules, saved, Closure, ended, closing-of, asked, asking-of, laid, table-after, work-after}
-use Rattle.demands.specs.Idle.{Count, counted, Closer, MeetsClosing, Asker, MeetsAsking}
+use Rattle.table.specs.Answers.{Counts, counted}
+use Rattle.demands.specs.Idle.{Closer, MeetsClosing, Asker, MeetsAsking}
 use Rattle.demands.proofs.CallLaws.{given-refused}
 use Rattle.demands.proofs.Examples.{Q, Q-clauses, Q-rows, bytes, sevens}
 
@@ -40,15 +41,15 @@ work = sevens 288
 
 record Computed : Type 0 where
   Q-closed : closing-of Q 6 3 100 (length table) (length work) ≡ given (record { table = Q-rows; grown = 3 })
-  Q-answer : counted (closing-of Q 6 3 100 (length table) (length work)) ≡ given (record { rows = 3; rounds = 3 })
+  Q-answer : counted (closing-of Q 6 3 100 (length table) (length work)) ≡ given (record { rows = 3; grown = 3 })
   Q-table : table-after (λ c. c .table) 3 (closing-of Q 6 3 100 (length table) (length work)) table ≡ bytes Q-rows
   Q-work : work-after 3 (closing-of Q 6 3 100 (length table) (length work)) work ≡ replicate 288 0
   Q-spelled : program 6 Q ≡ clauses Q-clauses
   Q-first : rounds (limits 3) (map opening Q-clauses) 1 ≡ going (map counts ((0 ∷ 1 ∷ []) ∷ []))
   Q-first-laid : getD (laid (table-needs 3) (map counts ((0 ∷ 1 ∷ []) ∷ [])) table) 2 0 ≡ 0
   Q-closed-laid : getD (bytes Q-rows) 2 0 ≡ 1
-  Flat-answer : counted (closing-of Flat 6 3 100 (length table) (length work)) ≡ given (record { rows = 2; rounds = 1 })
-  Chain-answer : counted (closing-of Chain 6 3 100 (length table) (length work)) ≡ given (record { rows = 2; rounds = 2 })
+  Flat-answer : counted (closing-of Flat 6 3 100 (length table) (length work)) ≡ given (record { rows = 2; grown = 1 })
+  Chain-answer : counted (closing-of Chain 6 3 100 (length table) (length work)) ≡ given (record { rows = 2; grown = 2 })
   same-length : length Flat ≡ length Chain
   Q-yes : asking-of (bytes Q-rows) 6 (0 ∷ 4 ∷ []) ≡ given true
   Q-no : asking-of (bytes Q-rows) 6 (3 ∷ 4 ∷ []) ≡ given false
@@ -65,8 +66,8 @@ module _ (f : Closer) (meets : MeetsClosing f) where
   refuses-everything idle = let w = idle Q 6 3 100 table work in given-refused (sym (computed .Q-answer) ∙ sym (meets .answers Q 6 3 100 table work) ∙ w .2)
 
   -- "one that returns an empty closed table": whatever it closes has no rows
-  pub returns-no-rows : ((rules : List ℕ) (n capacity permitted : ℕ) (table work : List ℕ) (a : Count) → f .answer rules n capacity permitted table work ≡ given a → a .rows ≡ 0) → ⊥
-  returns-no-rows idle = let z : _≡_ {A = ℕ} 3 0 = idle Q 6 3 100 table work (record { rows = 3; rounds = 3 }) (meets .answers Q 6 3 100 table work ∙ computed .Q-answer) in omega arith
+  pub returns-no-rows : ((rules : List ℕ) (n capacity permitted : ℕ) (table work : List ℕ) (a : Counts) → f .answer rules n capacity permitted table work ≡ given a → a .rows ≡ 0) → ⊥
+  returns-no-rows idle = let z : _≡_ {A = ℕ} 3 0 = idle Q 6 3 100 table work (record { rows = 3; grown = 3 }) (meets .answers Q 6 3 100 table work ∙ computed .Q-answer) in omega arith
 
   -- "one that leaves the areas untouched": the table area, or the work area
   pub leaves-table : ((rules : List ℕ) (n capacity permitted : ℕ) (table work : List ℕ) → f .table-left rules n capacity permitted table work ≡ table) → ⊥
@@ -80,29 +81,29 @@ module _ (f : Closer) (meets : MeetsClosing f) where
       let z : _≡_ {A = ℕ} 7 0 = ap (λ (l : List ℕ). getD l 0 0) (sym (idle Q 6 3 100 table work) ∙ meets .works Q 6 3 100 table work ∙ computed .Q-work) in omega arith
 
   -- "one that does a true first round and only repeats it later": whatever it closes, it leaves the first round's rows
-  pub repeats-first : ((rules : List ℕ) (n capacity permitted : ℕ) (table work : List ℕ) (a : Count) (P : List Clause) (t : List (List ℕ))
+  pub repeats-first : ((rules : List ℕ) (n capacity permitted : ℕ) (table work : List ℕ) (a : Counts) (P : List Clause) (t : List (List ℕ))
       → f .answer rules n capacity permitted table work ≡ given a → program n rules ≡ clauses P → rounds (limits capacity) (map opening P) 1 ≡ going t
       → f .table-left rules n capacity permitted table work ≡ laid (table-needs capacity) t table) → ⊥
   repeats-first idle =
-      let e = idle Q 6 3 100 table work (record { rows = 3; rounds = 3 }) Q-clauses (map counts ((0 ∷ 1 ∷ []) ∷ [])) (meets .answers Q 6 3 100 table work ∙ computed .Q-answer) (computed .Q-spelled) (computed .Q-first) in
+      let e = idle Q 6 3 100 table work (record { rows = 3; grown = 3 }) Q-clauses (map counts ((0 ∷ 1 ∷ []) ∷ [])) (meets .answers Q 6 3 100 table work ∙ computed .Q-answer) (computed .Q-spelled) (computed .Q-first) in
       let z : _≡_ {A = ℕ} 0 1 = sym (computed .Q-first-laid) ∙ ap (λ (l : List ℕ). getD l 2 0) (sym e ∙ meets .tables Q 6 3 100 table work ∙ computed .Q-table) ∙ computed .Q-closed-laid in
       omega arith
 
   -- "one with an invented round count": from anything but what the rules say, be it their length, the settings, the areas and the rows
   pub invents-rounds : (count : ℕ → ℕ → ℕ → ℕ → List ℕ → List ℕ → ℕ → ℕ)
-      → ((rules : List ℕ) (n capacity permitted : ℕ) (table work : List ℕ) (a : Count) → f .answer rules n capacity permitted table work ≡ given a
-      → a .rounds ≡ count (length rules) n capacity permitted table work (a .rows)) → ⊥
+      → ((rules : List ℕ) (n capacity permitted : ℕ) (table work : List ℕ) (a : Counts) → f .answer rules n capacity permitted table work ≡ given a
+      → a .grown ≡ count (length rules) n capacity permitted table work (a .rows)) → ⊥
   invents-rounds count idle =
-      let one-round : 1 ≡ count (length Flat) 6 3 100 table work 2 = idle Flat 6 3 100 table work (record { rows = 2; rounds = 1 }) (meets .answers Flat 6 3 100 table work ∙ computed .Flat-answer) in
-      let two-rounds : 2 ≡ count (length Chain) 6 3 100 table work 2 = idle Chain 6 3 100 table work (record { rows = 2; rounds = 2 }) (meets .answers Chain 6 3 100 table work ∙ computed .Chain-answer) in
+      let one-round : 1 ≡ count (length Flat) 6 3 100 table work 2 = idle Flat 6 3 100 table work (record { rows = 2; grown = 1 }) (meets .answers Flat 6 3 100 table work ∙ computed .Flat-answer) in
+      let two-rounds : 2 ≡ count (length Chain) 6 3 100 table work 2 = idle Chain 6 3 100 table work (record { rows = 2; grown = 2 }) (meets .answers Chain 6 3 100 table work ∙ computed .Chain-answer) in
       let z : _≡_ {A = ℕ} 1 2 = one-round ∙ ap (λ (l : ℕ). count l 6 3 100 table work 2) (computed .same-length) ∙ sym two-rounds in
       omega arith
 
   -- the same by what it counts: a call whose count is never the number of growing rounds, as one that counts the last round too
-  pub miscounts : ((rules : List ℕ) (n capacity permitted : ℕ) (table work : List ℕ) (c : Closure) (a : Count) → closing-of rules n capacity permitted (length table) (length work) ≡ given c
-      → f .answer rules n capacity permitted table work ≡ given a → a .rounds ≡ c .grown → ⊥) → ⊥
+  pub miscounts : ((rules : List ℕ) (n capacity permitted : ℕ) (table work : List ℕ) (c : Closure) (a : Counts) → closing-of rules n capacity permitted (length table) (length work) ≡ given c
+      → f .answer rules n capacity permitted table work ≡ given a → a .grown ≡ c .grown → ⊥) → ⊥
   miscounts idle =
-      idle Q 6 3 100 table work (record { table = Q-rows; grown = 3 }) (record { rows = 3; rounds = 3 }) (computed .Q-closed) (meets .answers Q 6 3 100 table work ∙ computed .Q-answer) refl
+      idle Q 6 3 100 table work (record { table = Q-rows; grown = 3 }) (record { rows = 3; grown = 3 }) (computed .Q-closed) (meets .answers Q 6 3 100 table work ∙ computed .Q-answer) refl
 
 -- ---- asking (demand 3)
 

@@ -4,16 +4,8 @@ use mathlib.Core.Bool.{Bool}
 use mathlib.Core.Path.{_≡_}
 use mathlib.Core.List.{List}
 use lib.ListN.{length}
-use Rattle.table.specs.Calls.{Outcome, given, refused, Closure, closing-of, asking-of, table-after, work-after}
-
--- "Closing answers "closed" with the number of rows and of growing rounds"
-pub record Count : Type 0 where
-  pub rows : ℕ
-  pub rounds : ℕ
-
-unfoldable pub counted : Outcome Closure → Outcome Count
-counted (given c) = given (record { rows = length (c .table); rounds = c .grown })
-counted (refused number k) = refused number k
+use Rattle.table.specs.Calls.{Outcome, closing-of, asking-of, table-after, work-after}
+use Rattle.table.specs.Answers.{Counts, counted}
 
 -- rules, kinds, capacity, permitted rounds, the table area and the work area, to something
 abbrev pub OfCall : Type 0 → Type 0
@@ -21,7 +13,7 @@ OfCall A = (rules : List ℕ) (n capacity permitted : ℕ) (table work : List �
 
 -- a call of closing: its answer, and what it leaves in the two areas
 pub record Closer : Type 0 where
-  pub answer : OfCall (Outcome Count)
+  pub answer : OfCall (Outcome Counts)
   pub table-left : OfCall (List ℕ)
   pub work-left : OfCall (List ℕ)
 

@@ -5,3 +5,4 @@ pub mod CheckLaws
 pub mod CallLaws
 pub mod OneRound
 pub mod AskLaws
+pub mod Determined
