@@ -6,3 +6,4 @@ pub mod CallLaws
 pub mod OneRound
 pub mod AskLaws
 pub mod Determined
+pub mod FewRows

@@ -1,0 +1,2 @@
+-- The law of refusal numbers.
+pub mod Numbers

@@ -1,0 +1,3 @@
+-- The laws of frames and lines.
+pub mod Numbers
+pub mod Lengths
