@@ -45,7 +45,7 @@ test:
 # Proves all crates, runs the programs and tries the must-fail edits.
 proofs:
 	@mkdir -p build
-	@if $(RT) ci 2>&1 | tee build/proofs.log | sed '$$d'; then :; else tail -n 1 build/proofs.log; exit 1; fi
+	@if $(RT) ci 2>&1 | tee build/proofs.log | sed -u '$$d'; then :; else tail -n 1 build/proofs.log; exit 1; fi
 	@tail -n 1 build/proofs.log | grep -Eqx '[0-9]+ passed, 0 failed' || { tail -n 1 build/proofs.log; exit 1; }
 
 second-program:
