@@ -23,7 +23,7 @@ ARCHIVE := target/staticlib/libludwavyn.a
 SETS := $(wildcard bench/sets/*.rules)
 EXAMPLES := p q ladder entitlements
 
-.PHONY: run test bench second-program second-checks proofs fresh-cases listings c-example
+.PHONY: run test bench yardstick second-program second-checks proofs fresh-cases listings c-example
 
 # Lists the table of a file of rule records.
 run: target/bin/listing
@@ -91,8 +91,16 @@ c-example: build/ask
 
 # The library against C of the same order of work, in one run; a time taken under an emulator says nothing, so none is taken.
 ifeq ($(MACHINE),x86_64)
-bench: build/bench
+bench: yardstick build/bench
 	@build/bench $(MACHINE) $(SETS)
+
+# The yardstick answers the committed cases of closing as the second program does.
+yardstick: build/check
+	@build/check answers crates/vectors/stdout <crates/vectors/stdin
+
+build/check: bench/check.c bench/close.c bench/close.h
+	@mkdir -p build
+	$(CC) -std=c11 -O3 -Wall -Wextra -o $@ bench/check.c bench/close.c
 
 build/bench: bench/bench.c bench/close.c bench/close.h include/ludwavyn.h $(ARCHIVE)
 	@mkdir -p build
