@@ -2,6 +2,7 @@
 ghost use Prim.Native.Nat.{_≤_};
 ghost use lib.ListN.{length};
 ghost use Rattle.io.specs.Counts.{Counts};
+ghost use Rattle.listing.specs.Prints.{Lists};
 use libc::STDIN_FILENO;
 use libc::STDOUT_FILENO;
 
@@ -9,6 +10,7 @@ use libc::STDOUT_FILENO;
 fn list(rules: &[u8], out: &mut [u8]) -> usize
     requires { ⌜ 65536 ≤ length (now out) ⌝ }
     ensures { λ r. ⌜ Counts r (now (out .exit)) ⌝ }
+    ensures { λ r. ⌜ Lists (now (rules .entry)) (now (out .entry)) (now (out .exit)) r ⌝ }
 {
     let mut table = [0u8; 8192];
     let mut work = [0u8; 24576];

@@ -34,7 +34,7 @@ listing-requires : tie.Need-listing-requires
 listing-requires c κs =
     let k = c .before .before .before .before in
     let s = k .before .before .before .before .before in
-    let h : rowsIn (k .close .result) ≤ 256 = omega (arith, same (k .close .result), close-few _ 32 256 10000 _ _ (k .close .result) _ _ (k .close .ensures)) in
+    let h : rowsIn (k .close .result) ≤ 256 = omega (arith, same (k .close .result), close-few _ _ 256 _ _ _ (k .close .result) _ _ (k .close .ensures)) in
     (omega (arith, h, k .close .kept .1 .1 .1 .1 .0), h, s .pre)
 
 same-length : tie.Need-same-length
@@ -43,9 +43,12 @@ same-length c = search needs
 returns : tie.Need-returns
 returns c =
     let l = c .before .before in
-    let s = l .before .before .before .before .before .before .before .before .before .before in
-    let h : l .listing .result ≤ length (l .listing .last .1 .1 .0) = omega (arith, l .listing .ensures .1, l .listing .kept .1 .1 .0, s .pre) in
-    (h, sym (length-take-le (l .listing .result) (l .listing .last .1 .1 .0) h))
+    let k = l .before .before .before .before .before in
+    let s = k .before .before .before .before .before in
+    let h : l .listing .result ≤ length (l .listing .last .1 .1 .0) = omega (arith, l .listing .ensures .1, l .listing .kept .1 .1 .0, s .pre) in (
+      (h, sym (length-take-le (l .listing .result) (l .listing .last .1 .1 .0) h)),
+      record { answer = k .close .result; table = _; work = _; closed = _; cleared = _; promised = k .close .ensures; table-long = search needs; work-long = search needs; written = l .listing .ensures .0 },
+    )
 
 pub list-spec : {M : Type 1} → statement M
 list-spec =
