@@ -25,7 +25,7 @@ use Rattle.goals.specs.declared.Order.{Order as OrderAnswer}
 use Rattle.goals.specs.Limits.{within, runs-within}
 use Rattle.goals.specs.Readings.{Reading, read, refused, _>>=_, head, body, rule, Program, clauses, refused-at, and-then, records, program, order}
 use Rattle.goals.specs.Sets.{one, set-of, branch-rows, order-rows, opening, opened-rule, opened-order}
-use Rattle.goals.specs.Answers.{rowsOf, number, outcomeOf, ruleOf, orderOf, passes, stops, told}
+use Rattle.goals.specs.Answers.{rowsOf, fault-number, outcomeOf, ruleOf, orderOf, passes, stops, told}
 use Rattle.goals.specs.Printing.{print}
 use Rattle.goals.proofs.Readings.{not-refused, same-read, was-read, was-refused, granted, steps, known}
 use Rattle.goals.proofs.PrintLaws.{Printed, body-printed, printed-body, Headed, head-printed, printed-head, Ordered, order-printed}
@@ -83,7 +83,7 @@ pub record Opens (r : Rule) (C : Clause) : Type 0 where
 
 outcome-read : {A : Type 0} (o : Outcome) (a b : A) → outcomeOf o a ≡ read b → (o ≡ Fine) × (a ≡ b)
 outcome-read Fine a b e = (refl, same-read a b e)
-outcome-read (Refused f) a b e = not-refused (number f) b e
+outcome-read (Refused f) a b e = not-refused (fault-number f) b e
 
 pub rule-opens : (n : ℕ) (s : List ℕ) (r : Rule) (C : Clause) → ruleOf r ≡ opened-rule n s → rule n s ≡ read C → Opens r C
 unfolding opened-rule opening branch-rows
@@ -107,9 +107,9 @@ module _ (n : ℕ) (s : List ℕ) (r : Rule) (e : ruleOf r ≡ opened-rule n s) 
       let c = was-read (rule n s) opening _ (sym (ap (λ o. outcomeOf o (record { head = r .head; branches = rowsOf (r .list) })) d) ∙ e) in
       (c .0, c .1, rule-opens n s r (c .0) e (c .1))
 
-  pub rule-refused : (f : Fault) → r .outcome ≡ Refused f → rule n s ≡ refused (number f)
+  pub rule-refused : (f : Fault) → r .outcome ≡ Refused f → rule n s ≡ refused (fault-number f)
   unfolding opened-rule
-  rule-refused f d = was-refused (rule n s) opening (number f) (sym (ap (λ o. outcomeOf o (record { head = r .head; branches = rowsOf (r .list) })) d) ∙ e)
+  rule-refused f d = was-refused (rule n s) opening (fault-number f) (sym (ap (λ o. outcomeOf o (record { head = r .head; branches = rowsOf (r .list) })) d) ∙ e)
 
 -- ---- a rule set
 
@@ -260,9 +260,9 @@ module _ (n : ℕ) (s : List ℕ) (r : OrderAnswer) (e : orderOf r ≡ opened-or
       let c = was-read (order n s) order-rows _ (sym (ap (λ o. outcomeOf o (rowsOf (r .list))) d) ∙ e) in
       (c .0, c .1, order-opens n s r (c .0) e (c .1))
 
-  pub order-refused : (f : Fault) → r .outcome ≡ Refused f → order n s ≡ refused (number f)
+  pub order-refused : (f : Fault) → r .outcome ≡ Refused f → order n s ≡ refused (fault-number f)
   unfolding opened-order
-  order-refused f d = was-refused (order n s) order-rows (number f) (sym (ap (λ o. outcomeOf o (rowsOf (r .list))) d) ∙ e)
+  order-refused f d = was-refused (order n s) order-rows (fault-number f) (sym (ap (λ o. outcomeOf o (rowsOf (r .list))) d) ∙ e)
 
 -- no count of an order's branches is above 64
 pub order-low-64 : (n : ℕ) (s : List ℕ) (Δ : List Goal) → Ordered n s Δ → every (λ r. not (over 64 r)) (order-rows Δ) ≡ true

@@ -17,7 +17,7 @@ use Rattle.goals.specs.declared.Op.the-variants.{Together, Both}
 use Rattle.goals.specs.declared.Code.{Code}
 use Rattle.goals.specs.declared.Code.the-variants.{Kind, Done, Pair, Fault}
 use Rattle.goals.specs.Codes.{is-kind, code, codeAt}
-use Rattle.goals.specs.Parsing.{Parsed, goal, fault, node, after, read-on, parse, parseAt}
+use Rattle.goals.specs.Parsing.{Parsed, goal, fault, node, past, read-on, parse, parseAt}
 use Rattle.goals.specs.Printing.{print, below}
 
 -- ---- a code and its byte
@@ -105,7 +105,7 @@ length-node : (op : Op) (G H : Goal) → length (print (node op G H)) ≡ suc (l
 length-node op G H = ap length (print-node op G H) ∙ ap suc (length-append (print G) (print H))
 
 right-stands : (n : ℕ) (s : List ℕ) (at m : ℕ) (op : Op) (G : Goal) (y : Parsed) → drop at s ≡ op-code op ∷ drop (at + 1) s
-    → Stands n s (at + 1) (goal G m) → Stands n s m y → Stands n s at (after y (λ H e. goal (node op G H) e))
+    → Stands n s (at + 1) (goal G m) → Stands n s m y → Stands n s at (past y (λ H e. goal (node op G H) e))
 right-stands n s at m op G (goal H e) p q r = (
   p ∙ ap (λ (x : List ℕ). op-code op ∷ x) (q .0 ∙ ap (λ (x : List ℕ). print G ++ x) (r .0) ∙ sym (append-assoc (print G) (print H) (drop e s)))
       ∙ ap (λ (x : List ℕ). x ++ drop e s) (sym (print-node op G H)),
@@ -114,7 +114,7 @@ right-stands n s at m op G (goal H e) p q r = (
 right-stands n s at m op G fault p q r = tt
 
 left-stands : (n : ℕ) (s : List ℕ) (at : ℕ) (op : Op) (x : Parsed) (inner : ℕ → Parsed) → drop at s ≡ op-code op ∷ drop (at + 1) s
-    → Stands n s (at + 1) x → ((i : ℕ) → Stands n s i (inner i)) → Stands n s at (after x (λ G m. after (inner m) (λ H e. goal (node op G H) e)))
+    → Stands n s (at + 1) x → ((i : ℕ) → Stands n s i (inner i)) → Stands n s at (past x (λ G m. past (inner m) (λ H e. goal (node op G H) e)))
 left-stands n s at op (goal G m) inner p q r = right-stands n s at m op G (inner m) p q (r m)
 left-stands n s at op fault inner p q r = tt
 
@@ -169,8 +169,8 @@ parse-on (suc f) n s at h = refl
 
 -- two readings that agree past a place agree there
 right-same : (n : ℕ) (s : List ℕ) (at : ℕ) (op : Op) (x : Parsed) (p q : ℕ → Parsed) → Stands n s (at + 1) x → ((i : ℕ) → at < i → p i ≡ q i)
-    → after x (λ G m. after (p m) (λ H e. goal (node op G H) e)) ≡ after x (λ G m. after (q m) (λ H e. goal (node op G H) e))
-right-same n s at op (goal G m) p q st eq = ap (λ y. after y (λ H e. goal (node op G H) e)) (eq m (omega (arith, st .1 .1 .0)))
+    → past x (λ G m. past (p m) (λ H e. goal (node op G H) e)) ≡ past x (λ G m. past (q m) (λ H e. goal (node op G H) e))
+right-same n s at op (goal G m) p q st eq = ap (λ y. past y (λ H e. goal (node op G H) e)) (eq m (omega (arith, st .1 .1 .0)))
 right-same n s at op fault p q st eq = refl
 
 on-same : (n : ℕ) (s : List ℕ) (at : ℕ) (c : Code) (p q : ℕ → Parsed) → ((i : ℕ) → Stands n s i (p i)) → ((i : ℕ) → at < i → p i ≡ q i)
@@ -179,7 +179,7 @@ on-same n s at (Kind k) p q st eq = refl
 on-same n s at Done p q st eq = refl
 on-same n s at (Pair op) p q st eq =
     right-same n s at op (p (at + 1)) p q (st (at + 1)) eq
-    ∙ ap (λ x. after x (λ G m. after (q m) (λ H e. goal (node op G H) e))) (eq (at + 1) (omega arith))
+    ∙ ap (λ x. past x (λ G m. past (q m) (λ H e. goal (node op G H) e))) (eq (at + 1) (omega arith))
 on-same n s at Fault p q st eq = refl
 
 -- any two amounts of fuel that reach the end give one reading
@@ -211,8 +211,8 @@ node-parse op f n s at G H r e p q =
     let e₁ : drop (at + 1) s ≡ print G ++ (print H ++ r) = rest-is s at (op-code op) ((print G ++ print H) ++ r) e ∙ append-assoc (print G) (print H) r in
     let e₂ : drop (at + 1 + length (print G)) s ≡ print H ++ r = sym (drop-drop (length (print G)) (at + 1) s) ∙ ap (drop (length (print G))) e₁ ∙ drop-append-seam (print G) (print H ++ r) in
     ap (λ x. read-on x (at + 1) (parse f n s)) (code-is n s at (op-code op) ((print G ++ print H) ++ r) e ∙ pair-code n op)
-    ∙ ap (λ x. after x (λ G m. after (parse f n s m) (λ H e. goal (node op G H) e))) (p e₁)
-    ∙ ap (λ x. after x (λ H e. goal (node op G H) e)) (q e₂)
+    ∙ ap (λ x. past x (λ G m. past (parse f n s m) (λ H e. goal (node op G H) e))) (p e₁)
+    ∙ ap (λ x. past x (λ H e. goal (node op G H) e)) (q e₂)
     ∙ ap (goal (node op G H)) (omega (arith, length-append (print G) (print H)))
 
 pub reads-print : (G : Goal) (f n : ℕ) (s : List ℕ) (at : ℕ) (r : List ℕ) → below n G ≡ true → length (print G) ≤ f → drop at s ≡ print G ++ r

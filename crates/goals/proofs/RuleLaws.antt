@@ -20,12 +20,12 @@ use Rattle.goals.specs.declared.Outcome.the-variants.{Fine as Passed, Re
 use Rattle.goals.specs.declared.Opened.{Opened}
 use Rattle.goals.specs.declared.Rule.{Rule}
 use Rattle.goals.specs.declared.HeadSet.{HeadSet}
-use Rattle.goals.specs.Parsing.{Parsed, goal, fault, after, parseAt}
+use Rattle.goals.specs.Parsing.{Parsed, goal, fault, past, parseAt}
 use Rattle.goals.specs.Limits.{within}
 use Rattle.goals.specs.Readings.{Reading, read, refused, _>>=_, padded, head, ends, body, rule, Program, clauses, refused-at, also, and-then, records, program}
 use Rattle.rounds.specs.Round.{Rule as OpenedRule}
 use Rattle.goals.specs.Sets.{one, set-of, opening, opened-rule}
-use Rattle.goals.specs.Answers.{rowsOf, number, outcomeOf, ruleOf, passes, stops, told}
+use Rattle.goals.specs.Answers.{rowsOf, fault-number, outcomeOf, ruleOf, passes, stops, told}
 use Rattle.goals.specs.Views.{capped, bad, viewBy, viewOf, allowed, view, bodyV, headBy, headOf, headV}
 use Rattle.goals.specs.Printing.{print}
 use Rattle.goals.proofs.Readings.{not-refused, same-read, was-read, was-refused, Both, steps, known}
@@ -36,13 +36,13 @@ use Rattle.goals.proofs.RowLaws.{branch-capped}
 
 pub body-bad : (n : ℕ) (s : List ℕ) → parseAt n s 0 ≡ fault → bodyV n s ≡ bad
 unfolding bodyV
-body-bad n s e = ap (λ x. view (after x (λ G m. cond (padded (drop m s)) (goal G m) fault))) e
+body-bad n s e = ap (λ x. view (past x (λ G m. cond (padded (drop m s)) (goal G m) fault))) e
 
 pub body-at : (n : ℕ) (s : List ℕ) (G : Goal) (m : ℕ) (t : Bool) → parseAt n s 0 ≡ goal G m → padded (drop m s) ≡ t
     → bodyV n s ≡ view (cond t (goal G m) fault)
 unfolding bodyV
 body-at n s G m t e d =
-    ap (λ x. view (after x (λ G m. cond (padded (drop m s)) (goal G m) fault))) e ∙ ap (λ b. view (cond b (goal G m) fault)) d
+    ap (λ x. view (past x (λ G m. cond (padded (drop m s)) (goal G m) fault))) e ∙ ap (λ b. view (cond b (goal G m) fault)) d
 
 -- what an answer under a test says
 abbrev pub Under : Verdict → List (List ℕ) → Bool → List (List ℕ) → Type 0
@@ -86,7 +86,7 @@ body-says n s o e = go (parseAt n s 0) refl e
     pick G m d false p q =
         of-fault n s (o .verdict) (rowsOf (o .list)) (o .next .at) (ap (ends s) d ∙ ap (λ t. cond t (read G) (refused 5)) p) q
 
-    go : (x : Parsed) → parseAt n s 0 ≡ x → viewOf o ≡ view (after x (λ G m. cond (padded (drop m s)) (goal G m) fault))
+    go : (x : Parsed) → parseAt n s 0 ≡ x → viewOf o ≡ view (past x (λ G m. cond (padded (drop m s)) (goal G m) fault))
         → BodySays n s (o .verdict) (rowsOf (o .list))
     go (goal G m) d q = pick G m d (padded (drop m s)) refl q
     go fault d q = of-fault n s (o .verdict) (rowsOf (o .list)) (o .next .at) (ap (ends s) d) q
@@ -182,10 +182,10 @@ module _ (n : ℕ) (s : List ℕ) (i : ℕ) where
     outcome-is : (o : Outcome) → r .outcome ≡ o → ruleOf r ≡ outcomeOf o (record { head = r .head; branches = rowsOf (r .list) })
     outcome-is o d = ap (λ x. outcomeOf x (record { head = r .head; branches = rowsOf (r .list) })) d
 
-    pub set-stops : (f : Fault) → r .outcome ≡ Refused f → stops (number f) i ≡ told (rest n c s i)
+    pub set-stops : (f : Fault) → r .outcome ≡ Refused f → stops (fault-number f) i ≡ told (rest n c s i)
     unfolding opened-rule
     set-stops f d =
-        let k : rule n (row 64 i s) ≡ refused (number f) = was-refused (rule n (row 64 i s)) opening (number f) (sym (outcome-is (Refused f) d) ∙ e) in
+        let k : rule n (row 64 i s) ≡ refused (fault-number f) = was-refused (rule n (row 64 i s)) opening (fault-number f) (sym (outcome-is (Refused f) d) ∙ e) in
         sym (ap told (next-record ∙ ap (λ x. and-then x i (rest n c s (i + 1))) k))
 
     pub set-goes-on : r .outcome ≡ Passed → told (rest n c s i) ≡ told (rest n c s (i + 1))

@@ -25,7 +25,7 @@ use Rattle.goals.specs.declared.Opened.{Opened}
 use Rattle.goals.specs.declared.Verdict.{Verdict}
 use Rattle.goals.specs.declared.Verdict.the-variants.{Fine, Over, Bad}
 use Rattle.goals.specs.Codes.{is-kind, codeAt}
-use Rattle.goals.specs.Parsing.{Parsed, goal, fault, node, after, read-on, parseAt}
+use Rattle.goals.specs.Parsing.{Parsed, goal, fault, node, past, read-on, parseAt}
 use Rattle.goals.specs.Limits.{within}
 use Rattle.goals.specs.Sets.{one}
 use Rattle.goals.specs.Answers.{rowsOf}
@@ -156,7 +156,7 @@ comb-bad : (op : Op) (a : Bool) (l : List (List ℕ)) (m : ℕ) → combineV op 
 comb-bad op true l m = refl
 comb-bad op false l m = refl
 
-pub combined : (op : Op) (G : Goal) (m : ℕ) (y : Parsed) → combineV op (view (goal G m)) (view y) ≡ view (after y (λ H e. goal (node op G H) e))
+pub combined : (op : Op) (G : Goal) (m : ℕ) (y : Parsed) → combineV op (view (goal G m)) (view y) ≡ view (past y (λ H e. goal (node op G H) e))
 unfolding within opened ways
 combined Together G m (goal H e) =
     comb-together (within 16 G) (within 16 H) (opened one capped G) (opened one capped H) m e ∙ rw (length-opened one capped G, length-opened one capped H)
@@ -230,11 +230,11 @@ module _ (n : ℕ) (s : List ℕ) (at : ℕ) (st : Step) (e : st ≡ stepAt n s 
     pair-next = let lt = here-lt s at _ _ (said (Pair op) d) in (next-of lt, lt)
 
     module _ (left : Opened) (l : viewOf left ≡ view (parseAt n s (st .next .at))) where
-      pair-on : parseAt n s at ≡ after (parseAt n s (st .next .at)) (λ G m. after (parseAt n s m) (λ H e. goal (node op G H) e))
-      pair-on = on (Pair op) d ∙ ap (λ i. after (parseAt n s i) (λ G m. after (parseAt n s m) (λ H e. goal (node op G H) e))) (sym (pair-next .0))
+      pair-on : parseAt n s at ≡ past (parseAt n s (st .next .at)) (λ G m. past (parseAt n s m) (λ H e. goal (node op G H) e))
+      pair-on = on (Pair op) d ∙ ap (λ i. past (parseAt n s i) (λ G m. past (parseAt n s m) (λ H e. goal (node op G H) e))) (sym (pair-next .0))
 
       pub pair-bad : left .verdict ≡ Bad → view (parseAt n s at) ≡ bad
-      pair-bad b = ap view (pair-on ∙ ap (λ x. after x (λ G m. after (parseAt n s m) (λ H e. goal (node op G H) e))) (here-bad n s (st .next .at) left l b))
+      pair-bad b = ap view (pair-on ∙ ap (λ x. past x (λ G m. past (parseAt n s m) (λ H e. goal (node op G H) e))) (here-bad n s (st .next .at) left l b))
 
       module _ (fair : left .verdict ≡ Bad → ⊥) where
         pub mid-past : (at < left .next .at) × (left .next .at ≤ length s)
@@ -245,4 +245,4 @@ module _ (n : ℕ) (s : List ℕ) (at : ℕ) (st : Step) (e : st ≡ stepAt n s 
             let G = here n s (st .next .at) left l fair in
             ap₂ (combineV op) (here-view n s (st .next .at) left l fair) r
             ∙ combined op (G .0) (left .next .at) (parseAt n s (left .next .at))
-            ∙ ap view (sym (pair-on ∙ ap (λ x. after x (λ G m. after (parseAt n s m) (λ H e. goal (node op G H) e))) (G .1)))
+            ∙ ap view (sym (pair-on ∙ ap (λ x. past x (λ G m. past (parseAt n s m) (λ H e. goal (node op G H) e))) (G .1)))

@@ -20,16 +20,16 @@ rowsOf b = rows 32 (b .count) (b .sets)
 
 -- "4: a head breaks its rule; 5: a body breaks its rule; 6: over 16 branches; 10: order over 64 bytes, an unknown code, a kind
 -- not below n, or an unfinished goal"
-abbrev pub number : Fault → ℕ
-number Head = 4
-number Body = 5
-number Over = 6
-number Order = 10
+abbrev pub fault-number : Fault → ℕ
+fault-number Head = 4
+fault-number Body = 5
+fault-number Over = 6
+fault-number Order = 10
 
 -- a value that counts where nothing is refused
 abbrev pub outcomeOf : {A : Type 0} → Outcome → A → Reading A
 outcomeOf Fine a = read a
-outcomeOf (Refused f) a = refused (number f)
+outcomeOf (Refused f) a = refused (fault-number f)
 
 -- the answer for a rule record: "the head" as a set, and its body's branches
 abbrev pub ruleOf : Rule → Reading OpenedRule
@@ -52,4 +52,4 @@ told (refused-at k i) = stops k i
 -- what an answer of the code tells
 abbrev pub toldOf : Checked → Told
 toldOf AllFine = passes
-toldOf (RefusedAt f i) = stops (number f) i
+toldOf (RefusedAt f i) = stops (fault-number f) i

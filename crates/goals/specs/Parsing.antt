@@ -20,16 +20,16 @@ node Together G H = G ⅋ H
 node Both G H = G & H
 
 -- go on with a goal that was read, at the place past it
-abbrev pub after : Parsed → (Goal → ℕ → Parsed) → Parsed
-after (goal G m) f = f G m
-after fault f = fault
+abbrev pub past : Parsed → (Goal → ℕ → Parsed) → Parsed
+past (goal G m) f = f G m
+past fault f = fault
 
 -- "A code 65 or 66 is followed by its left and its right goal, which may be compound themselves." `next` is the place
 -- past the code, and `inner` reads the goal at a place.
 abbrev pub read-on : Code → ℕ → (ℕ → Parsed) → Parsed
 read-on (Kind k) next inner = goal (kind k) next
 read-on Done next inner = goal ⊤ next
-read-on (Pair op) next inner = after (inner next) (λ G m. after (inner m) (λ H e. goal (node op G H) e))
+read-on (Pair op) next inner = past (inner next) (λ G m. past (inner m) (λ H e. goal (node op G H) e))
 read-on Fault next inner = fault
 
 -- the goal at a place of s, with operators nested less than f deep

@@ -15,7 +15,7 @@ use Rattle.goals.specs.declared.Verdict.the-variants.{Fine, Over, Bad}
 use Rattle.goals.specs.declared.Opened.{Opened}
 use Rattle.goals.specs.declared.HeadSet.{HeadSet}
 use Rattle.goals.specs.Codes.{codeAt}
-use Rattle.goals.specs.Parsing.{Parsed, goal, fault, after, parseAt}
+use Rattle.goals.specs.Parsing.{Parsed, goal, fault, past, parseAt}
 use Rattle.goals.specs.Limits.{within, runs-within}
 use Rattle.goals.specs.Readings.{Reading, read, refused, _>>=_, padded, head, goals}
 use Rattle.goals.specs.Sets.{one, set-of}
@@ -84,7 +84,7 @@ Short bad = Unit
 
 -- a body: a goal, and then 255 to the end
 unfoldable pub bodyV : ℕ → List ℕ → View
-bodyV n s = view (after (parseAt n s 0) (λ G m. cond (padded (drop m s)) (goal G m) fault))
+bodyV n s = view (past (parseAt n s 0) (λ G m. cond (padded (drop m s)) (goal G m) fault))
 
 -- the goals of an order, the place past them being m
 abbrev pub viewAll : ℕ → Reading (List Goal) → View

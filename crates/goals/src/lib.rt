@@ -12,7 +12,7 @@ ghost use Rattle.goals.specs.Codes.{is-kind, code};
 ghost use Rattle.goals.specs.Parsing.{parseAt};
 ghost use Rattle.goals.specs.Readings.{Reading, Reading.refused, padded, climbs, front, program};
 ghost use Rattle.goals.specs.Sets.{one, set-of, opened-rule, opened-order};
-ghost use Rattle.goals.specs.Answers.{rowsOf, number, ruleOf, orderOf, told, toldOf};
+ghost use Rattle.goals.specs.Answers.{rowsOf, fault-number, ruleOf, orderOf, told, toldOf};
 ghost use Rattle.goals.specs.Views.{stepAt, capped, viewOf, view, View, View.bad, View.over, View.fine, joinedV, worseV, combineV, Short, bodyV, goalsV, headOf, headV};
 
 // A list of at most 16 token sets: the first `count` rows of 32 counts. What stands past them is left open.
@@ -473,7 +473,7 @@ fn read_head(head: &[u8], kinds: usize) -> HeadSet
 
 // The answer for a rule record that is refused.
 fn refused_rule(fault: Fault) -> Rule
-    ensures { λ r. ⌜ ruleOf r ≡ Reading.refused (number fault) ⌝ }
+    ensures { λ r. ⌜ ruleOf r ≡ Reading.refused (fault-number fault) ⌝ }
 {
     Rule {
         outcome: Outcome::Refused(fault),
@@ -558,7 +558,7 @@ fn join_goals(s: &[u8], kinds: usize) -> Opened
 
 // The answer for an order that is refused.
 fn refused_order(fault: Fault) -> Order
-    ensures { λ r. ⌜ orderOf r ≡ Reading.refused (number fault) ⌝ }
+    ensures { λ r. ⌜ orderOf r ≡ Reading.refused (fault-number fault) ⌝ }
 {
     Order {
         outcome: Outcome::Refused(fault),

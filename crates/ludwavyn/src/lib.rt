@@ -1,7 +1,7 @@
 // The three calls for C and Rust: a slice arrives as a pointer and a length, an answer leaves by numbers.
 ghost use mathlib.Core.Path.{_≡_};
 ghost use Rattle.table.specs.Answers.{number};
-ghost use Rattle.ludwavyn.specs.Codes.{flag, ToldClosing, ToldRounded, SaidAnswer, CloseTold, RoundTold, AskTold};
+ghost use Rattle.ludwavyn.specs.Codes.{flag, ToldClosing, ToldRounded, ToldAnswer, CloseTold, RoundTold, AskTold};
 use report::number_of;
 use report::returned_of;
 use table::Answer;
@@ -61,7 +61,7 @@ fn tell_rounded(answer: Rounded, first: &mut usize, second: &mut usize) -> u32
 
 // Hands out what asking answered.
 fn say_answer(answer: Answer, first: &mut usize) -> u32
-    ensures { λ r. ⌜ SaidAnswer answer r (now (first .exit)) ⌝ }
+    ensures { λ r. ⌜ ToldAnswer answer r (now (first .exit)) ⌝ }
 {
     match answer {
         Answer::Yes => {

@@ -7,7 +7,7 @@ use native.Mathlib.Numerals.{add-one}
 use native.Mathlib.Omega.{arith}
 use lib.ListN.{length, getD, take, drop, length-append}
 use lib.Seq.{drop-cons, drop-drop, getD-drop}
-use Rattle.report.specs.Text.{decimal, two, gap, pair, pairs, line, lines, closed, refused, closedText, refusedText}
+use Rattle.report.specs.Text.{decimal, two, gap, pair, pairs, line, lines, closedWords, refusedWords, closedText, refusedText}
 use Rattle.table.specs.Answers.{number, returned}
 use Rattle.table.specs.declared.Refusal.{Refusal}
 use Rattle.report.proofs.Spelling.{decimal-few, decimal-20}
@@ -67,9 +67,9 @@ two-few word a b = simp length-append (omega (arith, decimal-20 a, decimal-20 b)
 
 -- a listing has at most 65,536 bytes
 pub closed-few : (rows rounds : ℕ) (t : List ℕ) → rows ≤ 256 → Small t → length (closedText rows rounds t) ≤ 65536
-unfolding closedText closed
+unfolding closedText closedWords
 closed-few rows rounds t h s = simp length-append (omega (arith, two-few (99 ∷ 108 ∷ 111 ∷ 115 ∷ 101 ∷ 100 ∷ 32 ∷ []) rows rounds, lines-few rows t s))
 
 pub refused-few : (why : Refusal) → length (refusedText why) ≤ 65536
-unfolding refusedText refused
+unfolding refusedText refusedWords
 refused-few why = simp length-append (omega (arith, two-few (114 ∷ 101 ∷ 102 ∷ 117 ∷ 115 ∷ 101 ∷ 100 ∷ 32 ∷ []) (number why) (returned why)))

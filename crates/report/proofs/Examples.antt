@@ -6,7 +6,7 @@ use lib.ListN.{replicate}
 use Rattle.table.specs.Answers.{number, returned}
 use Rattle.table.specs.declared.Refusal.the-variants.{Capacity}
 use Rattle.table.specs.declared.Closing.the-variants.{Closed, Refused}
-use Rattle.report.specs.Text.{spelled, decimal, two, gap, pair, pairs, line, lines, closed, refused, closedText, refusedText, listed}
+use Rattle.report.specs.Text.{spelled, decimal, two, gap, pair, pairs, line, lines, closedWords, refusedWords, closedText, refusedText, listed}
 
 -- a row of counts and zeros after them
 row : List ℕ → ℕ → List ℕ
@@ -23,12 +23,12 @@ listing-of-p : listed (Closed 5 3) tableOfP ≡
     ∷ 50 ∷ 58 ∷ 49 ∷ 32 ∷ 51 ∷ 58 ∷ 49 ∷ 10
     ∷ 49 ∷ 58 ∷ 49 ∷ 32 ∷ 50 ∷ 58 ∷ 49 ∷ 10
     ∷ 48 ∷ 58 ∷ 49 ∷ 10 ∷ []
-unfolding listed closedText closed two lines line pairs pair gap decimal spelled tableOfP row
+unfolding listed closedText closedWords two lines line pairs pair gap decimal spelled tableOfP row
 listing-of-p = refl
 
 -- "refused 8 1"
 listing-of-refusal : listed (Refused (Capacity 1)) [] ≡ 114 ∷ 101 ∷ 102 ∷ 117 ∷ 115 ∷ 101 ∷ 100 ∷ 32 ∷ 56 ∷ 32 ∷ 49 ∷ 10 ∷ []
-unfolding listed refusedText refused two number returned decimal spelled
+unfolding listed refusedText refusedWords two number returned decimal spelled
 listing-of-refusal = refl
 
 -- the largest number of 64 bits

@@ -49,20 +49,20 @@ lines zero t = []
 lines (suc n) t = line (take 32 t) ++ lines n (drop 32 t)
 
 -- "closed", rows, growing rounds
-unfoldable pub closed : ℕ → ℕ → List ℕ
-closed rows rounds = two (99 ∷ 108 ∷ 111 ∷ 115 ∷ 101 ∷ 100 ∷ 32 ∷ []) rows rounds
+unfoldable pub closedWords : ℕ → ℕ → List ℕ
+closedWords rows rounds = two (99 ∷ 108 ∷ 111 ∷ 115 ∷ 101 ∷ 100 ∷ 32 ∷ []) rows rounds
 
 -- "refused", the number and the returned number
-unfoldable pub refused : Refusal → List ℕ
-refused why = two (114 ∷ 101 ∷ 102 ∷ 117 ∷ 115 ∷ 101 ∷ 100 ∷ 32 ∷ []) (number why) (returned why)
+unfoldable pub refusedWords : Refusal → List ℕ
+refusedWords why = two (114 ∷ 101 ∷ 102 ∷ 117 ∷ 115 ∷ 101 ∷ 100 ∷ 32 ∷ []) (number why) (returned why)
 
 -- "Its first line is "closed", rows, growing rounds; then one line a row"
 unfoldable pub closedText : ℕ → ℕ → List ℕ → List ℕ
-closedText rows rounds t = closed rows rounds ++ (10 ∷ lines rows t)
+closedText rows rounds t = closedWords rows rounds ++ (10 ∷ lines rows t)
 
 -- "A refusal prints one line, "refused", the number and the returned number"
 unfoldable pub refusedText : Refusal → List ℕ
-refusedText why = refused why ++ (10 ∷ [])
+refusedText why = refusedWords why ++ (10 ∷ [])
 
 -- what the program prints for an answer and the bytes of the table area
 unfoldable pub listed : Closing → List ℕ → List ℕ

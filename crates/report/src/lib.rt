@@ -8,7 +8,7 @@ ghost use mathlib.Core.List.{_∷_, []};
 ghost use lib.ListN.{length};
 ghost use Rattle.table.specs.Answers.{number, returned};
 ghost use Rattle.report.specs.Buffer.{Written};
-ghost use Rattle.report.specs.Text.{decimal, two, gap, pair, pairs, line, lines, closed, refused, closedText, refusedText, listed, rowsIn};
+ghost use Rattle.report.specs.Text.{decimal, two, gap, pair, pairs, line, lines, closedWords, refusedWords, closedText, refusedText, listed, rowsIn};
 
 // Writes a text from `at` on and gives the place after it, so that texts can be written one after another.
 pub fn put_text(text: &[u8], out: &mut [u8], at: usize) -> usize
@@ -162,16 +162,16 @@ pub fn returned_of(why: Refusal) -> usize
 
 // Writes a refusal with both its numbers.
 pub fn put_refused(why: Refusal, out: &mut [u8], at: usize) -> usize
-    requires { ⌜ at + length (refused why) ≤ length (now out) ⌝ }
-    ensures { λ r. ⌜ Written (refused why) at (now (out .entry)) (now (out .exit)) r ⌝ }
+    requires { ⌜ at + length (refusedWords why) ≤ length (now out) ⌝ }
+    ensures { λ r. ⌜ Written (refusedWords why) at (now (out .entry)) (now (out .exit)) r ⌝ }
 {
     put_two(b"refused ", number_of(why), returned_of(why), out, at)
 }
 
 // Writes an answer's rows and growing rounds.
 pub fn put_closed(rows: usize, rounds: usize, out: &mut [u8], at: usize) -> usize
-    requires { ⌜ at + length (closed rows rounds) ≤ length (now out) ⌝ }
-    ensures { λ r. ⌜ Written (closed rows rounds) at (now (out .entry)) (now (out .exit)) r ⌝ }
+    requires { ⌜ at + length (closedWords rows rounds) ≤ length (now out) ⌝ }
+    ensures { λ r. ⌜ Written (closedWords rows rounds) at (now (out .entry)) (now (out .exit)) r ⌝ }
 {
     put_two(b"closed ", rows, rounds, out, at)
 }

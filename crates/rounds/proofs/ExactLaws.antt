@@ -12,16 +12,16 @@ use Rattle.tokens.proofs.SetLaws.{included-refl, included-trans, included-antis
 use Rattle.tokens.proofs.TableLaws.{covering, covers, wide-mem, Orderly}
 use Rattle.tokens.proofs.UniqueLaws.{apart-mem, orderly-unique}
 use Rattle.rounds.specs.Round.{going, Rule, Limits, Growth, round}
-use Rattle.rounds.specs.Earns.{any, earns, Collection, Minimal}
+use Rattle.rounds.specs.Earns.{any, earns, Collection, MinimalIn}
 use Rattle.rounds.proofs.CoverLaws.{round-covers}
 use Rattle.rounds.proofs.EarnsLaws.{earned-includes}
 use Rattle.rounds.proofs.RoundLaws.{Sized, of-rules-wide, round-rows, round-orderly, round-wide}
 
 -- where the rows of a table in order are of a collection of sets of one width that it covers, they are the collection's minimal sets
-pub rows-minimal : (w : ℕ) (t : List (List ℕ)) (C : List ℕ → Type 0) → Orderly t → ((x : List ℕ) → C x → length x ≡ w) → ((x : List ℕ) → C x → covered t x ≡ true) → ((r : List ℕ) → List·Memᴰ r t → C r) → (x : List ℕ) → List·Memᴰ x t ↔ Minimal C x
+pub rows-minimal : (w : ℕ) (t : List (List ℕ)) (C : List ℕ → Type 0) → Orderly t → ((x : List ℕ) → C x → length x ≡ w) → ((x : List ℕ) → C x → covered t x ≡ true) → ((r : List ℕ) → List·Memᴰ r t → C r) → (x : List ℕ) → List·Memᴰ x t ↔ MinimalIn C x
 rows-minimal w t C o wide cover rows x = (there, back)
   where
-    there : List·Memᴰ x t → Minimal C x
+    there : List·Memᴰ x t → MinimalIn C x
     there m = record {
       one-of = rows x m;
       least = λ s c i.
@@ -30,7 +30,7 @@ rows-minimal w t C o wide cover rows x = (there, back)
           included-antisym s x (wide s c ∙ sym (wide x (rows x m))) i (ap (λ a. included a s) (sym p) ∙ v .2);
     }
 
-    back : Minimal C x → List·Memᴰ x t
+    back : MinimalIn C x → List·Memᴰ x t
     back m = let v = covering t x (cover x (m .one-of)) in Memᴰ·cast (sym (m .least (v .0) (rows (v .0) (v .1)) (v .2))) (v .1)
 
 pub collection-wide : (rules : List Rule) (I : List (List ℕ)) → Sized rules → Wide 32 I → (x : List ℕ) → Collection rules I x → length x ≡ 32
@@ -49,7 +49,7 @@ module _ (limits : Limits) (spent : Bool) (rules : List Rule) (I : List (List �
   collection-covered x (inr o) = round-covers limits spent rules I u e x ∙ or-r (covered I x) (any (earns (covered I) x) rules) (earned-includes rules I x .1 (x, o, included-refl x))
 
   -- the rows of the new table are exactly the minimal sets of I together with S_P of I
-  pub round-minimal : Sized rules → Wide 32 I → Orderly I → (x : List ℕ) → List·Memᴰ x (u .rows) ↔ Minimal (Collection rules I) x
+  pub round-minimal : Sized rules → Wide 32 I → Orderly I → (x : List ℕ) → List·Memᴰ x (u .rows) ↔ MinimalIn (Collection rules I) x
   round-minimal z w o = rows-minimal 32 (u .rows) (Collection rules I) (round-orderly limits spent rules I u e o) (collection-wide rules I z w) collection-covered round-collection
 
   -- a table in order that covers what I covers and what the rules earn over I is the round's

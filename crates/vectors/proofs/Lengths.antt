@@ -12,18 +12,18 @@ use Rattle.table.specs.declared.Rounded.{Rounded}
 use Rattle.table.specs.declared.Rounded.the-variants as rounded
 use Rattle.table.specs.declared.Answer.{Answer}
 use Rattle.table.specs.declared.Answer.the-variants as answer
-use Rattle.report.specs.Text.{decimal, two, closed, refused}
+use Rattle.report.specs.Text.{decimal, two, closedWords, refusedWords}
 use Rattle.report.proofs.Spelling.{decimal-20}
 use Rattle.report.proofs.Counting.{two-few}
 use Rattle.vectors.specs.Frame.{adler32}
 use Rattle.vectors.specs.Lines.{closingText, grewText, doneText, roundedText, answerText, areasText, closingLine, roundedLine, answerLine}
 
-refused-few : (why : Refusal) → length (refused why) ≤ 100
-unfolding refused
+refused-few : (why : Refusal) → length (refusedWords why) ≤ 100
+unfolding refusedWords
 refused-few why = omega (arith, two-few (114 ∷ 101 ∷ 102 ∷ 117 ∷ 115 ∷ 101 ∷ 100 ∷ 32 ∷ []) (number why) (returned why))
 
 closing-few : (a : Closing) → length (closingText a) ≤ 100
-unfolding closingText closed
+unfolding closingText closedWords
 closing-few (closing.Closed rows rounds) = omega (arith, two-few (99 ∷ 108 ∷ 111 ∷ 115 ∷ 101 ∷ 100 ∷ 32 ∷ []) rows rounds)
 closing-few (closing.Refused why) = refused-few why
 

@@ -8,13 +8,13 @@ use Rattle.table.specs.declared.Rounded.{Rounded}
 use Rattle.table.specs.declared.Rounded.the-variants as rounded
 use Rattle.table.specs.declared.Answer.{Answer}
 use Rattle.table.specs.declared.Answer.the-variants as answer
-use Rattle.report.specs.Text.{decimal, two, closed, refused}
+use Rattle.report.specs.Text.{decimal, two, closedWords, refusedWords}
 use Rattle.vectors.specs.Frame.{adler32}
 
 -- "closed ROWS ROUNDS" or "refused NUMBER RETURNED"
 unfoldable pub closingText : Closing → List ℕ
-closingText (closing.Closed rows rounds) = closed rows rounds
-closingText (closing.Refused why) = refused why
+closingText (closing.Closed rows rounds) = closedWords rows rounds
+closingText (closing.Refused why) = refusedWords why
 
 -- "grew" or "still"
 unfoldable pub grewText : Bool → List ℕ
@@ -28,13 +28,13 @@ doneText rows grew = (114 ∷ 111 ∷ 117 ∷ 110 ∷ 100 ∷ 32 ∷ []) ++ (dec
 -- the same or "refused NUMBER RETURNED"
 unfoldable pub roundedText : Rounded → List ℕ
 roundedText (rounded.Done rows grew) = doneText rows grew
-roundedText (rounded.Refused why) = refused why
+roundedText (rounded.Refused why) = refusedWords why
 
 -- "yes", "no" or "refused NUMBER RETURNED"
 unfoldable pub answerText : Answer → List ℕ
 answerText answer.Yes = 121 ∷ 101 ∷ 115 ∷ []
 answerText answer.No = 110 ∷ 111 ∷ []
-answerText (answer.Refused why) = refused why
+answerText (answer.Refused why) = refusedWords why
 
 -- " T W", the checksums of both areas
 unfoldable pub areasText : List ℕ → List ℕ → List ℕ

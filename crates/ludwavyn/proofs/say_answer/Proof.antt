@@ -2,7 +2,7 @@
 use borrow.Author.Needs.{needs}
 use native.Mathlib.Omega.{arith}
 use mathlib.Core.Path.{_≡_, refl}
-use Rattle.ludwavyn.specs.Codes.{SaidAnswer}
+use Rattle.ludwavyn.specs.Codes.{ToldAnswer}
 use Rattle.ludwavyn.proofs.say_answer.Statement.{statement}
 use Rattle.ludwavyn.proofs.say_answer.Tie as tie
 
@@ -22,15 +22,15 @@ code-requires : tie.Need-code-requires
 code-requires c κs = search needs
 
 returns : tie.Need-returns
-unfolding SaidAnswer
+unfolding ToldAnswer
 returns c = rw (c .enum-told .given .1) (record { result = refl; one = refl })
 
 returns-2 : tie.Need-returns-2
-unfolding SaidAnswer
+unfolding ToldAnswer
 returns-2 c = rw (c .enum-told2 .given .1) (record { result = refl; one = refl })
 
 returns-3 : tie.Need-returns-3
-unfolding SaidAnswer
+unfolding ToldAnswer
 returns-3 c = rw (c .before .before .before .answer .given .1) (record { result = c .code .ensures; one = c .before .returned-of .ensures })
 
 pub say-answer-spec : {M : Type 1} → statement M

@@ -6,7 +6,7 @@ use mathlib.Core.Path.{_≡_}
 use mathlib.Core.Logic.{⊎-elim}
 use Prim.Native.Nat.{ℕ, _<_, _≤_, _+_, _/_}
 use Rattle.report.specs.Text.{decimal}
-use Rattle.report.proofs.Laying.{after}
+use Rattle.report.proofs.Writing.{after}
 use Rattle.report.proofs.Spelling.{decimal-small, decimal-large, room-small, room-large}
 use borrow.Fn.Kinds.{In}
 use borrow.Fn.PlainCycle.{Measures, is, falls, and}

@@ -2,7 +2,7 @@
 use borrow.Author.Needs.{needs}
 use native.Mathlib.Omega.{arith}
 use mathlib.Core.Path.{refl}
-use Rattle.report.proofs.Laying.{lay-one}
+use Rattle.report.proofs.Writing.{write-one}
 use Rattle.report.proofs.put_byte.Statement.{statement}
 use Rattle.report.proofs.put_byte.Tie as tie
 
@@ -16,7 +16,7 @@ same-length : tie.Need-same-length
 same-length c = search needs
 
 returns : tie.Need-returns
-returns c = record { place = refl; holds = lay-one _ _ _ (omega arith) }
+returns c = record { place = refl; holds = write-one _ _ _ (omega arith) }
 
 pub put-byte-spec : {M : Type 1} → statement M
 put-byte-spec =

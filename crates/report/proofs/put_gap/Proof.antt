@@ -4,7 +4,7 @@ use native.Mathlib.Omega.{arith}
 use mathlib.Core.Path.{_≡_}
 use lib.ListN.{length}
 use Rattle.report.specs.Text.{gap}
-use Rattle.report.proofs.Laying.{nothing}
+use Rattle.report.proofs.Writing.{nothing}
 use Rattle.report.proofs.put_gap.Statement.{statement}
 use Rattle.report.proofs.put_gap.Tie as tie
 

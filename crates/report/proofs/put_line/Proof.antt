@@ -5,7 +5,7 @@ use mathlib.Core.Bool.{true}
 use mathlib.Core.List.{[], _∷_}
 use lib.ListN.{length}
 use Rattle.report.specs.Text.{pairs, line}
-use Rattle.report.proofs.Laying.{after, front, rest}
+use Rattle.report.proofs.Writing.{after, front, rest}
 use Rattle.report.proofs.put_line.Statement.{statement}
 use Rattle.report.proofs.put_line.Tie as tie
 

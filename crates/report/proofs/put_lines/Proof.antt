@@ -7,7 +7,7 @@ use mathlib.Core.List.{List}
 use lib.ListN.{length, take, drop}
 use Rattle.report.specs.Text.{line, lines}
 use Rattle.report.specs.Buffer.{Written}
-use Rattle.report.proofs.Laying.{Left, left-start, left-room, left-turn, left-stop, front}
+use Rattle.report.proofs.Writing.{Left, left-start, left-room, left-turn, left-stop, front}
 use Rattle.report.proofs.Counting.{lines-next}
 use Rattle.report.proofs.put_lines.Statement.{statement}
 use Rattle.report.proofs.put_lines.Tie as tie

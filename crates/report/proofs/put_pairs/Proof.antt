@@ -9,7 +9,7 @@ use Prim.Native.Nat.{ℕ, _+_, _-_, _≤_, _<_}
 use lib.ListN.{length, drop, getD}
 use lib.Seq.{drop-length}
 use Rattle.report.specs.Text.{pair, pairs}
-use Rattle.report.proofs.Laying.{Left, left-start, left-room, left-turn, left-stop, front}
+use Rattle.report.proofs.Writing.{Left, left-start, left-room, left-turn, left-stop, front}
 use Rattle.report.proofs.Counting.{pairs-none, pairs-next}
 use Rattle.report.proofs.put_pairs.Statement.{statement}
 use Rattle.report.proofs.put_pairs.Tie as tie

@@ -3,7 +3,7 @@ use borrow.Author.Needs.{needs}
 use native.Mathlib.Omega.{arith}
 use mathlib.Core.Path.{_≡_, refl, sym, ap}
 use Rattle.table.specs.Answers.{number, returned}
-use Rattle.report.specs.Text.{refused, two}
+use Rattle.report.specs.Text.{refusedWords, two}
 use Rattle.report.proofs.put_refused.Statement.{statement}
 use Rattle.report.proofs.put_refused.Tie as tie
 
@@ -17,7 +17,7 @@ returned-of-requires : tie.Need-returned-of-requires
 returned-of-requires c κs = search needs
 
 put-two-requires : tie.Need-put-two-requires
-unfolding refused
+unfolding refusedWords
 put-two-requires c κs =
     let r = c .before in
     let n = r .before in
@@ -28,7 +28,7 @@ same-length : tie.Need-same-length
 same-length c = search needs
 
 returns : tie.Need-returns
-unfolding refused
+unfolding refusedWords
 returns c =
     let p = c .before .before in
     let r = p .before .before in

@@ -8,7 +8,7 @@ use native.Mathlib.Numerals.{add-one}
 use native.Mathlib.Nat.{le-antisymm}
 use lib.ListN.{length, take, drop, getD, set, length-set}
 use lib.Seq.{paste, paste-zero, paste-suc, take-length}
-use Rattle.report.specs.Buffer.{lay, Written}
+use Rattle.report.specs.Buffer.{write-at, Written}
 use Rattle.report.proofs.put_text.Statement.{statement}
 use Rattle.report.proofs.put_text.Tie as tie
 
@@ -19,8 +19,8 @@ abbrev μ-loop : tie.MeasureT-loop
 μ-loop text out₀ at i₀ out i = length text - i
 
 -- the whole text is pasted
-whole : (d s : List ℕ) (at : ℕ) → paste d at s (length s) ≡ lay at s d
-unfolding lay
+whole : (d s : List ℕ) (at : ℕ) → paste d at s (length s) ≡ write-at at s d
+unfolding write-at
 whole d s at = ap (λ (x : List ℕ). take at d ++ x ++ drop (at + length s) d) (take-length s) ∙ append-assoc (take at d) s (drop (at + length s) d)
 
 loop-holds : tie.Need-loop-holds Inv-loop μ-loop

@@ -5,7 +5,7 @@ use mathlib.Core.List.{List, [], _∷_, _++_}
 use Prim.Native.Nat.{ℕ, _+_, _≤_}
 use lib.ListN.{length}
 use Rattle.report.specs.Text.{decimal, gap, two}
-use Rattle.report.proofs.Laying.{after, front, rest}
+use Rattle.report.proofs.Writing.{after, front, rest}
 use Rattle.report.proofs.put_two.Statement.{statement}
 use Rattle.report.proofs.put_two.Tie as tie
 

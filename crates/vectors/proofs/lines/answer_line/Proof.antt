@@ -7,7 +7,7 @@ use mathlib.Core.List.{List, [], _∷_, _++_}
 use lib.ListN.{length, take}
 use lib.Seq.{length-take-le}
 use Rattle.vectors.specs.Lines.{answerText, answerLine}
-use Rattle.report.proofs.Laying.{after, front, rest}
+use Rattle.report.proofs.Writing.{after, front, rest}
 use Rattle.vectors.proofs.Lengths.{answer-short}
 use Rattle.vectors.proofs.lines.answer_line.Statement.{statement}
 use Rattle.vectors.proofs.lines.answer_line.Tie as tie

@@ -7,7 +7,7 @@ use mathlib.Core.List.{List, [], _∷_, _++_}
 use lib.ListN.{length, take}
 use Rattle.report.specs.Text.{decimal}
 use Rattle.vectors.specs.Lines.{grewText, doneText}
-use Rattle.report.proofs.Laying.{after, front, rest}
+use Rattle.report.proofs.Writing.{after, front, rest}
 use Rattle.vectors.proofs.lines.put_done.Statement.{statement}
 use Rattle.vectors.proofs.lines.put_done.Tie as tie
 

@@ -6,7 +6,7 @@ use mathlib.Core.Path.{_≡_, refl, sym, ap, _∙_}
 use mathlib.Core.List.{List, [], _∷_, _++_}
 use lib.ListN.{length, take}
 use Rattle.vectors.specs.Lines.{areasText}
-use Rattle.report.proofs.Laying.{after, front, rest}
+use Rattle.report.proofs.Writing.{after, front, rest}
 use Rattle.vectors.proofs.lines.put_tail.Statement.{statement}
 use Rattle.vectors.proofs.lines.put_tail.Tie as tie
 
