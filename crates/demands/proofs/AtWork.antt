@@ -17,7 +17,7 @@ use Rattle.goals.specs.Readings.{read, clauses, padded, climbs, front, head, bo
 use Rattle.goals.specs.Sets.{one, set-of, branch-rows, order-rows, opening, opened-rule, opened-order}
 use Rattle.goals.proofs.Readings.{same-read}
 use Rattle.goals.proofs.Examples.{pad, rec, counts}
-use Rattle.rounds.specs.Round.{limits, after, each, fitting, hold, meet, weave, holding, grown, offer, step, round, next, closing, close, answer}
+use Rattle.rounds.specs.Round.{after, each, fitting, hold, meet, weave, holding, grown, offer, step, round, next, closing, close, answer}
 use Rattle.table.specs.Calls.{Outcome, given, check, between, kinds-fit, capacity-fits, rounds-fit, table-needs, work-needs, areas-fit, rules-fit, rows-fit, with-rules, saved, Closure, ended, closing-of, asked, asking-of, laid, table-after}
 use Rattle.demands.specs.Statements.{front-rows, Decides}
 use Rattle.demands.proofs.Demands.{demand-3}

@@ -21,7 +21,7 @@ use Rattle.goals.specs.Sets.{one, set-of, branch-rows, order-rows, opening, ope
 use Rattle.logic.proofs.Theorems.{no-goals-unprovable}
 use Rattle.goals.proofs.Readings.{same-read}
 use Rattle.goals.proofs.Examples.{pad, rec, counts, four, five}
-use Rattle.rounds.specs.Round.{limits, Growth, after, each, fitting, hold, meet, weave, holding, grown, offer, step, round, next, closing, close, answer}
+use Rattle.rounds.specs.Round.{Growth, after, each, fitting, hold, meet, weave, holding, grown, offer, step, round, next, closing, close, answer}
 use Rattle.table.specs.Calls.{Outcome, given, refused, check, between, kinds-fit, capacity-fits, rounds-fit, table-needs, work-needs, areas-fit, rules-fit, rows-fit, with-rules, saved, Closure, ended, closing-of, rounded, rounding-of, asked, asking-of, laid, spoilt, table-after, work-after}
 use Rattle.demands.specs.Statements.{front-rows}
 use Rattle.demands.proofs.Spelling.{spelt}

@@ -17,7 +17,6 @@ use Rattle.logic.specs.Goals.{Goal, Clause, _∈_}
 use Rattle.logic.specs.Branches.{openedAll, ways, branches, branchesC}
 use Rattle.logic.proofs.FewKinds.{HeadsBelow}
 use Rattle.logic.proofs.BranchLaws.{length-sums, length-opened}
-use Rattle.goals.specs.declared.Fault.{Fault}
 use Rattle.goals.specs.declared.Outcome.{Outcome}
 use Rattle.goals.specs.declared.Outcome.the-variants.{Fine, Refused}
 use Rattle.goals.specs.declared.Rule.{Rule}
@@ -27,7 +26,7 @@ use Rattle.goals.specs.Readings.{Reading, read, refused, _>>=_, head, bo
 use Rattle.goals.specs.Sets.{one, set-of, branch-rows, order-rows, opening, opened-rule, opened-order}
 use Rattle.goals.specs.Answers.{rowsOf, fault-number, outcomeOf, ruleOf, orderOf, passes, stops, told}
 use Rattle.goals.specs.Printing.{print}
-use Rattle.goals.proofs.Readings.{not-refused, same-read, was-read, was-refused, granted, steps, known}
+use Rattle.goals.proofs.Readings.{not-refused, same-read, granted, steps, known}
 use Rattle.goals.proofs.PrintLaws.{Printed, body-printed, printed-body, Headed, head-printed, printed-head, Ordered, order-printed}
 use Rattle.goals.proofs.ParseLaws.{print-odd}
 use Rattle.goals.proofs.LimitLaws.{within-few, ways-all, runs-few}
@@ -98,18 +97,6 @@ rule-opens n s r C e d =
       count = k;
       few = rw k (within-few 16 (C .body) (rule-printed n s C d .few));
     }
-
--- a record whose answer passes is read, and one whose answer is refused gets that refusal
-module _ (n : ℕ) (s : List ℕ) (r : Rule) (e : ruleOf r ≡ opened-rule n s) where
-  pub rule-passed : r .outcome ≡ Fine → (C : Clause) × (rule n s ≡ read C) × Opens r C
-  unfolding opened-rule
-  rule-passed d =
-      let c = was-read (rule n s) opening _ (sym (ap (λ o. outcomeOf o (record { head = r .head; branches = rowsOf (r .list) })) d) ∙ e) in
-      (c .0, c .1, rule-opens n s r (c .0) e (c .1))
-
-  pub rule-refused : (f : Fault) → r .outcome ≡ Refused f → rule n s ≡ refused (fault-number f)
-  unfolding opened-rule
-  rule-refused f d = was-refused (rule n s) opening (fault-number f) (sym (ap (λ o. outcomeOf o (record { head = r .head; branches = rowsOf (r .list) })) d) ∙ e)
 
 -- ---- a rule set
 
@@ -252,17 +239,6 @@ order-opens n s r Δ e d =
     let o = outcome-read (r .outcome) (rowsOf (r .list)) (order-rows Δ) (e ∙ known (order n s) (λ Γ. read (order-rows Γ)) Δ d) in
     let k : r .list .count ≡ ways-all Δ = counts (r .list) (order-rows Δ) (o .1) ∙ length-openedAll one _ empty Δ in
     record { passed = o .0; the-rows = o .1; few = rw k (runs-few-all 16 Δ (omega arith) (order-printed n s Δ d .few)) }
-
-module _ (n : ℕ) (s : List ℕ) (r : OrderAnswer) (e : orderOf r ≡ opened-order n s) where
-  pub order-passed : r .outcome ≡ Fine → (Δ : List Goal) × (order n s ≡ read Δ) × OpensOrder r Δ
-  unfolding opened-order
-  order-passed d =
-      let c = was-read (order n s) order-rows _ (sym (ap (λ o. outcomeOf o (rowsOf (r .list))) d) ∙ e) in
-      (c .0, c .1, order-opens n s r (c .0) e (c .1))
-
-  pub order-refused : (f : Fault) → r .outcome ≡ Refused f → order n s ≡ refused (fault-number f)
-  unfolding opened-order
-  order-refused f d = was-refused (order n s) order-rows (fault-number f) (sym (ap (λ o. outcomeOf o (rowsOf (r .list))) d) ∙ e)
 
 -- no count of an order's branches is above 64
 pub order-low-64 : (n : ℕ) (s : List ℕ) (Δ : List Goal) → Ordered n s Δ → every (λ r. not (over 64 r)) (order-rows Δ) ≡ true

@@ -10,7 +10,7 @@ ghost use Rattle.tokens.specs.Sets.{empty};
 ghost use Rattle.logic.specs.Branches.{sums};
 ghost use Rattle.goals.specs.Codes.{is-kind, code};
 ghost use Rattle.goals.specs.Parsing.{parseAt};
-ghost use Rattle.goals.specs.Readings.{Reading, Reading.refused, padded, climbs, front, program};
+ghost use Rattle.goals.specs.Readings.{Reading, padded, climbs, front, program};
 ghost use Rattle.goals.specs.Sets.{one, set-of, opened-rule, opened-order};
 ghost use Rattle.goals.specs.Answers.{rowsOf, fault-number, ruleOf, orderOf, told, toldOf};
 ghost use Rattle.goals.specs.Views.{stepAt, capped, viewOf, view, View, View.bad, View.over, View.fine, joinedV, worseV, combineV, Short, bodyV, goalsV, headOf, headV};

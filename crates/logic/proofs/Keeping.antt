@@ -8,14 +8,10 @@ use Rattle.logic.specs.Satisfaction.{Interp}
 use Rattle.logic.specs.Operator.{S, S↑}
 use Rattle.logic.specs.Order.{Covers, _⊑_, _≃_, _∪_}
 use Rattle.logic.specs.Rounds.{After, start, round}
-use Rattle.logic.proofs.OrderLaws.{⊑-refl, ⊑-trans, ≃-iff, ∪-least, ∪-right, ∪-mono, ∪-covers}
+use Rattle.logic.proofs.OrderLaws.{⊑-refl, ⊑-trans, ≃-iff, ∪-least, ∪-right, ∪-covers}
 use Rattle.logic.proofs.Satisfied.{S-mono}
 use Rattle.logic.proofs.Step.{Step, step-iff}
 use Rattle.logic.proofs.Powers.{power-up}
-
--- any representative of a table gives the same round
-pub round-same : {P : List Clause} {T U : Interp} → T ≃ U → T ∪ S P T ≃ U ∪ S P U
-round-same e = (∪-mono (e .0) (S-mono (e .0)), ∪-mono (e .1) (S-mono (e .1)))
 
 -- what one round covers: what its table covers, and what some rule can make a step from
 pub round-iff : (P : List Clause) (T U : Interp) → (U ≃ T ∪ S P T) ↔ ((X : Fact) → Covers U X ↔ (Covers T X ⊎ Step P T X))

@@ -8,7 +8,6 @@ pub mod Opening
 pub mod ByBranches
 pub mod Satisfied
 pub mod Joins
-pub mod Sets
 pub mod Step
 pub mod Powers
 pub mod Keeping

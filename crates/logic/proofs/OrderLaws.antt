@@ -46,18 +46,12 @@ pub ≃-iff : (I J : Interp) → (I ≃ J) ↔ ((X : Fact) → Covers I X ↔ Co
 
 -- ---- ∪ is the least upper bound of ⊑ (001, Definition 5.1)
 
-pub ∪-left : (I J : Interp) → I ⊑ I ∪ J
-∪-left I J B b = (B, inl b, ≼-refl B)
-
 pub ∪-right : (I J : Interp) → J ⊑ I ∪ J
 ∪-right I J B b = (B, inr b, ≼-refl B)
 
 pub ∪-least : {I J K : Interp} → I ⊑ K → J ⊑ K → I ∪ J ⊑ K
 ∪-least f g B (inl b) = f B b
 ∪-least f g B (inr b) = g B b
-
-pub ∪-mono : {I J K L : Interp} → I ⊑ K → J ⊑ L → I ∪ J ⊑ K ∪ L
-∪-mono {K = K} {L = L} f g = ∪-least (⊑-trans f (∪-left K L)) (⊑-trans g (∪-right K L))
 
 pub ∪-covers : (I J : Interp) (X : Fact) → Covers (I ∪ J) X ↔ (Covers I X ⊎ Covers J X)
 ∪-covers I J X = (

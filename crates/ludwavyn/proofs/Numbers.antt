@@ -1,5 +1,5 @@
 -- 01's refusal numbers are small.
-use Prim.Native.Nat.{ℕ, _≤_}
+use Prim.Native.Nat.{_≤_}
 use native.Mathlib.Omega.{arith}
 use Rattle.table.specs.Answers.{number}
 use Rattle.table.specs.declared.Refusal.{Refusal}

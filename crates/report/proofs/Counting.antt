@@ -1,13 +1,13 @@
 -- The pairs and lines of a row, one count and one row at a time.
-use mathlib.Core.Path.{_≡_, refl, sym, ap, _∙_}
+use mathlib.Core.Path.{_≡_, sym, ap, _∙_}
 use mathlib.Core.Bool.{Bool, true, false}
 use mathlib.Core.List.{List, [], _∷_, _++_}
-use Prim.Native.Nat.{ℕ, zero, suc, _+_, _-_, _*_, _^_, _≤_, _<_}
+use Prim.Native.Nat.{ℕ, zero, suc, _+_, _-_, _*_, _≤_, _<_}
 use native.Mathlib.Numerals.{add-one}
 use native.Mathlib.Omega.{arith}
 use lib.ListN.{length, getD, take, drop, length-append}
 use lib.Seq.{drop-cons, drop-drop, getD-drop}
-use Rattle.report.specs.Text.{decimal, two, gap, pair, pairs, line, lines, closedWords, refusedWords, closedText, refusedText}
+use Rattle.report.specs.Text.{two, gap, pair, pairs, line, lines, closedWords, refusedWords, closedText, refusedText}
 use Rattle.table.specs.Answers.{number, returned}
 use Rattle.table.specs.declared.Refusal.{Refusal}
 use Rattle.report.proofs.Spelling.{decimal-few, decimal-20}

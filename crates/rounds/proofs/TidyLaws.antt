@@ -3,12 +3,11 @@ use Prim.Native.Nat.{ℕ, _≤_}
 use native.Mathlib.Omega.{arith}
 use mathlib.Core.Bool.{Bool, true, false, not}
 use mathlib.Core.Path.{_≡_, refl}
-use mathlib.Core.List.{List, [], List·Memᴰ}
+use mathlib.Core.List.{List, []}
 use lib.ListN.{length}
-use borrow.Author.Tests.{not-true}
 use Rattle.tokens.specs.Sets.{over}
 use Rattle.tokens.specs.Tables.{every, blank-from, well-formed, Wide, none}
-use Rattle.tokens.proofs.TableLaws.{every-mem, Orderly, orderly-none}
+use Rattle.tokens.proofs.TableLaws.{orderly-none}
 use Rattle.tokens.proofs.FormLaws.{formed, formed-orderly, formed-blank}
 use Rattle.rounds.specs.Round.{going, Rule, Limits, Growth, round, closed, close, rounds}
 use Rattle.rounds.proofs.RoundLaws.{Sized, round-orderly, round-wide, round-blank, round-within, round-fits}
@@ -21,13 +20,6 @@ pub record Tidy (limits : Limits) (n : ℕ) (t : List (List ℕ)) : Type 0 where
   pub wide : Wide 32 t
   pub fits : length t ≤ limits .capacity
   pub within : every (λ r. not (over (limits .most) r)) t ≡ true
-
-pub tidy-orderly : {limits : Limits} {n : ℕ} {t : List (List ℕ)} → Tidy limits n t → Orderly t
-tidy-orderly {n = n} {t = t} d = formed-orderly n t (d .formed)
-
--- no count of a row is over the largest
-pub tidy-within : {limits : Limits} {n : ℕ} {t : List (List ℕ)} → Tidy limits n t → {r : List ℕ} → List·Memᴰ r t → over (limits .most) r ≡ false
-tidy-within {limits = limits} d {r} m = not-true (over (limits .most) r) (every-mem (λ z. not (over (limits .most) z)) (d .within) m)
 
 pub tidy-none : (limits : Limits) (n : ℕ) → Tidy limits n []
 unfolding every

@@ -1,7 +1,7 @@
 -- No line has more than 256 bytes.
-use mathlib.Core.List.{List, [], _∷_, _++_}
+use mathlib.Core.List.{List, [], _∷_}
 use mathlib.Core.Bool.{Bool, true, false}
-use Prim.Native.Nat.{ℕ, _+_, _≤_}
+use Prim.Native.Nat.{ℕ, _≤_}
 use native.Mathlib.Omega.{arith}
 use lib.ListN.{length, length-append}
 use Rattle.table.specs.Answers.{number, returned}
@@ -12,7 +12,7 @@ use Rattle.table.specs.declared.Rounded.{Rounded}
 use Rattle.table.specs.declared.Rounded.the-variants as rounded
 use Rattle.table.specs.declared.Answer.{Answer}
 use Rattle.table.specs.declared.Answer.the-variants as answer
-use Rattle.report.specs.Text.{decimal, two, closedWords, refusedWords}
+use Rattle.report.specs.Text.{closedWords, refusedWords}
 use Rattle.report.proofs.Spelling.{decimal-20}
 use Rattle.report.proofs.Counting.{two-few}
 use Rattle.vectors.specs.Frame.{adler32}

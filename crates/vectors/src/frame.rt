@@ -1,7 +1,7 @@
 // A frame's head, its numbers, and the checksum of an area.
 ghost use Prim.Native.Nat.{_≤_, _<_, _%_};
 ghost use mathlib.Core.Path.{_≡_};
-ghost use lib.ListN.{length, take, drop, getD};
+ghost use lib.ListN.{length};
 ghost use Rattle.vectors.specs.Frame.{little, adler32};
 
 // What stands before a case's rules, rows and order.

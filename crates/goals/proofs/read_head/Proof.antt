@@ -3,7 +3,7 @@ use mathlib.Core.Path.{sym, ap, _∙_}
 use borrow.Author.Tests.{not-true, not-false}
 use native.Mathlib.Omega.{arith}
 use borrow.Author.Needs.{needs}
-use Rattle.goals.specs.Readings.{read, climbs}
+use Rattle.goals.specs.Readings.{read}
 use Rattle.goals.proofs.HeadLaws.{front-fits, front-below, head-none, head-falls, head-stray, head-good}
 use Rattle.goals.proofs.read_head.Statement.{statement}
 use Rattle.goals.proofs.read_head.Tie as tie

@@ -1,6 +1,5 @@
 -- `ludwavyn::flag_of` meets its contract.
 use borrow.Author.Needs.{needs}
-use native.Mathlib.Omega.{arith}
 use Rattle.ludwavyn.specs.Codes.{flag}
 use Rattle.ludwavyn.proofs.flag_of.Statement.{statement}
 use Rattle.ludwavyn.proofs.flag_of.Tie as tie

@@ -1,7 +1,6 @@
 -- `ludwavyn::say_answer` meets its contract, variant by variant.
 use borrow.Author.Needs.{needs}
-use native.Mathlib.Omega.{arith}
-use mathlib.Core.Path.{_≡_, refl}
+use mathlib.Core.Path.{refl}
 use Rattle.ludwavyn.specs.Codes.{ToldAnswer}
 use Rattle.ludwavyn.proofs.say_answer.Statement.{statement}
 use Rattle.ludwavyn.proofs.say_answer.Tie as tie

@@ -1,7 +1,6 @@
 -- `ludwavyn::tell_closing` meets its contract, variant by variant.
 use borrow.Author.Needs.{needs}
-use native.Mathlib.Omega.{arith}
-use mathlib.Core.Path.{_≡_, refl}
+use mathlib.Core.Path.{refl}
 use Rattle.ludwavyn.specs.Codes.{ToldClosing}
 use Rattle.ludwavyn.proofs.tell_closing.Statement.{statement}
 use Rattle.ludwavyn.proofs.tell_closing.Tie as tie

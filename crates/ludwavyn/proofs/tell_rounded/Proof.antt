@@ -1,7 +1,6 @@
 -- `ludwavyn::tell_rounded` meets its contract, variant by variant.
 use borrow.Author.Needs.{needs}
-use native.Mathlib.Omega.{arith}
-use mathlib.Core.Path.{_≡_, refl}
+use mathlib.Core.Path.{refl}
 use Rattle.ludwavyn.specs.Codes.{ToldRounded}
 use Rattle.ludwavyn.proofs.tell_rounded.Statement.{statement}
 use Rattle.ludwavyn.proofs.tell_rounded.Tie as tie

@@ -1,9 +1,8 @@
 -- `report::put_decimal` meets its contract: it ends since the number falls, and writes what its tenth part writes and then the last digit.
 use borrow.Author.Needs.{needs}
 use native.Mathlib.Omega.{arith}
-use lib.ListN.{length, getD}
+use lib.ListN.{length}
 use mathlib.Core.Path.{_≡_}
-use mathlib.Core.Logic.{⊎-elim}
 use Prim.Native.Nat.{ℕ, _<_, _≤_, _+_, _/_}
 use Rattle.report.specs.Text.{decimal}
 use Rattle.report.proofs.Writing.{after}

@@ -1,13 +1,12 @@
 -- `report::list_closed` meets its contract: the first line, its line feed and the lines of the rows.
 use borrow.Author.Needs.{needs}
 use native.Mathlib.Omega.{arith}
-use Prim.Native.Nat.{ℕ, _+_, _≤_}
-use mathlib.Core.Path.{_≡_, sym}
-use mathlib.Core.List.{List, [], _∷_, _++_}
+use Prim.Native.Nat.{_+_, _≤_}
+use mathlib.Core.List.{[], _∷_, _++_}
 use lib.ListN.{length}
 use Rattle.report.specs.Text.{closedWords, lines, closedText}
 use Rattle.report.proofs.Writing.{after, front, rest}
-use Rattle.report.proofs.Counting.{Small, closed-few}
+use Rattle.report.proofs.Counting.{closed-few}
 use Rattle.report.proofs.list_closed.Statement.{statement}
 use Rattle.report.proofs.list_closed.Tie as tie
 

@@ -1,9 +1,8 @@
 -- `report::list_refused` meets its contract: the refusal and then the line feed.
 use borrow.Author.Needs.{needs}
 use native.Mathlib.Omega.{arith}
-use Prim.Native.Nat.{ℕ, _+_, _≤_}
-use mathlib.Core.Path.{_≡_, sym}
-use mathlib.Core.List.{List, [], _∷_, _++_}
+use Prim.Native.Nat.{_+_, _≤_}
+use mathlib.Core.List.{[], _∷_, _++_}
 use lib.ListN.{length}
 use Rattle.report.specs.Text.{refusedWords, refusedText}
 use Rattle.report.proofs.Writing.{after, front, rest}

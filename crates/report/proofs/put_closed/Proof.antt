@@ -1,6 +1,5 @@
 -- `report::put_closed` meets its contract.
 use borrow.Author.Needs.{needs}
-use native.Mathlib.Omega.{arith}
 use Rattle.report.specs.Text.{closedWords}
 use Rattle.report.proofs.put_closed.Statement.{statement}
 use Rattle.report.proofs.put_closed.Tie as tie

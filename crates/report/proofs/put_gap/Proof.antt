@@ -1,8 +1,5 @@
 -- `report::put_gap` meets its contract: nothing for a line's first pair, one space for any other.
 use borrow.Author.Needs.{needs}
-use native.Mathlib.Omega.{arith}
-use mathlib.Core.Path.{_≡_}
-use lib.ListN.{length}
 use Rattle.report.specs.Text.{gap}
 use Rattle.report.proofs.Writing.{nothing}
 use Rattle.report.proofs.put_gap.Statement.{statement}

@@ -1,9 +1,7 @@
 -- `report::put_line` meets its contract: the pairs and then the line feed.
 use borrow.Author.Needs.{needs}
-use native.Mathlib.Omega.{arith}
 use mathlib.Core.Bool.{true}
 use mathlib.Core.List.{[], _∷_}
-use lib.ListN.{length}
 use Rattle.report.specs.Text.{pairs, line}
 use Rattle.report.proofs.Writing.{after, front, rest}
 use Rattle.report.proofs.put_line.Statement.{statement}

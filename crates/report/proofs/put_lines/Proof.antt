@@ -1,12 +1,11 @@
 -- `report::put_lines` meets its contract. The invariant: the lines of the rows from `row` on are still to be written.
 use borrow.Author.Needs.{needs}
 use native.Mathlib.Omega.{arith}
-use Prim.Native.Nat.{ℕ, zero, _+_, _-_, _*_, _≤_, _<_}
+use Prim.Native.Nat.{ℕ, _+_, _-_, _*_, _≤_}
 use mathlib.Core.Path.{_≡_, ap}
 use mathlib.Core.List.{List}
-use lib.ListN.{length, take, drop}
+use lib.ListN.{take, drop}
 use Rattle.report.specs.Text.{line, lines}
-use Rattle.report.specs.Buffer.{Written}
 use Rattle.report.proofs.Writing.{Left, left-start, left-room, left-turn, left-stop, front}
 use Rattle.report.proofs.Counting.{lines-next}
 use Rattle.report.proofs.put_lines.Statement.{statement}

@@ -1,8 +1,7 @@
 -- `report::put_pair` meets its contract: what its four calls write, one after another.
 use borrow.Author.Needs.{needs}
-use native.Mathlib.Omega.{arith}
-use mathlib.Core.List.{List, [], _∷_, _++_}
-use Prim.Native.Nat.{ℕ, _+_, _≤_}
+use mathlib.Core.List.{[], _∷_, _++_}
+use Prim.Native.Nat.{_+_, _≤_}
 use lib.ListN.{length}
 use Rattle.report.specs.Text.{decimal, gap, pair}
 use Rattle.report.proofs.Writing.{after, front, rest}

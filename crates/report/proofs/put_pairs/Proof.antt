@@ -1,11 +1,10 @@
 -- `report::put_pairs` meets its contract. The invariant: the pairs of the kinds from `kind` on are still to be written.
 use borrow.Author.Needs.{needs}
 use native.Mathlib.Omega.{arith}
-use mathlib.Core.Path.{_≡_, refl, sym, ap, _∙_}
+use mathlib.Core.Path.{_≡_, ap, _∙_}
 use mathlib.Core.Logic.{⊎-elim}
-use mathlib.Core.Bool.{Bool, true, false}
-use mathlib.Core.List.{List, [], _∷_, _++_}
-use Prim.Native.Nat.{ℕ, _+_, _-_, _≤_, _<_}
+use mathlib.Core.Bool.{true, false}
+use Prim.Native.Nat.{ℕ, _+_, _-_, _≤_}
 use lib.ListN.{length, drop, getD}
 use lib.Seq.{drop-length}
 use Rattle.report.specs.Text.{pair, pairs}
@@ -13,9 +12,6 @@ use Rattle.report.proofs.Writing.{Left, left-start, left-room, left-tur
 use Rattle.report.proofs.Counting.{pairs-none, pairs-next}
 use Rattle.report.proofs.put_pairs.Statement.{statement}
 use Rattle.report.proofs.put_pairs.Tie as tie
-use Rattle.report.proofs.put_pairs.Reads as reads
-use Rattle.report.proofs.put_pairs.Lts as lts
-use Rattle.report.proofs.put_pair.Reads as put-pair-reads
 
 abbrev Inv-loop : tie.InvT-loop
 Inv-loop row out₀ at first₀ place₀ kind₀ out first place kind = (kind ≤ length row) × Left (pairs true 0 row) (pairs first kind (drop kind row)) at out₀ place out

@@ -1,9 +1,6 @@
 -- `report::put_refused` meets its contract.
 use borrow.Author.Needs.{needs}
-use native.Mathlib.Omega.{arith}
-use mathlib.Core.Path.{_≡_, refl, sym, ap}
-use Rattle.table.specs.Answers.{number, returned}
-use Rattle.report.specs.Text.{refusedWords, two}
+use Rattle.report.specs.Text.{refusedWords}
 use Rattle.report.proofs.put_refused.Statement.{statement}
 use Rattle.report.proofs.put_refused.Tie as tie
 

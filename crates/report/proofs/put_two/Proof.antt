@@ -1,10 +1,9 @@
 -- `report::put_two` meets its contract: what its four calls write, one after another.
 use borrow.Author.Needs.{needs}
-use native.Mathlib.Omega.{arith}
-use mathlib.Core.List.{List, [], _∷_, _++_}
-use Prim.Native.Nat.{ℕ, _+_, _≤_}
+use mathlib.Core.List.{[], _∷_, _++_}
+use Prim.Native.Nat.{_+_, _≤_}
 use lib.ListN.{length}
-use Rattle.report.specs.Text.{decimal, gap, two}
+use Rattle.report.specs.Text.{decimal, two}
 use Rattle.report.proofs.Writing.{after, front, rest}
 use Rattle.report.proofs.put_two.Statement.{statement}
 use Rattle.report.proofs.put_two.Tie as tie

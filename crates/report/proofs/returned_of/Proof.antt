@@ -1,8 +1,6 @@
 -- `report::returned_of` meets its contract, variant by variant.
 use borrow.Author.Needs.{needs}
-use native.Mathlib.Omega.{arith}
-use mathlib.Core.Path.{_≡_, refl, sym, ap}
-use Rattle.table.specs.Answers.{number, returned}
+use Rattle.table.specs.Answers.{returned}
 use Rattle.report.proofs.returned_of.Statement.{statement}
 use Rattle.report.proofs.returned_of.Tie as tie
 

@@ -1,6 +1,5 @@
 -- `vectors::main` is safe and ends. The measure is the number of turns that are left.
 use borrow.Author.Needs.{needs}
-use native.Mathlib.Omega.{arith}
 use Rattle.vectors.proofs.main.Statement.{statement}
 use Rattle.vectors.proofs.main.Tie as tie
 

@@ -1,9 +1,7 @@
 -- `vectors::read_part` meets its contract: a part lies within its buffer.
 use borrow.Author.Needs.{needs}
 use native.Mathlib.Omega.{arith}
-use Prim.Native.Nat.{ℕ, _≤_}
-use mathlib.Core.Path.{_≡_, sym}
-use lib.ListN.{length, take}
+use mathlib.Core.Path.{sym}
 use lib.Seq.{length-take-le}
 use Rattle.vectors.proofs.read_part.Statement.{statement}
 use Rattle.vectors.proofs.read_part.Tie as tie

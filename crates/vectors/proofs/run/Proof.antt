@@ -1,6 +1,5 @@
 -- `vectors::run` is safe: the areas lie within the arrays.
 use borrow.Author.Needs.{needs}
-use native.Mathlib.Omega.{arith}
 use Prim.Native.Nat.{ℕ, _≤_}
 use mathlib.Core.Path.{_≡_, sym}
 use lib.ListN.{length, take, replicate, length-replicate}

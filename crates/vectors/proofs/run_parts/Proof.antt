@@ -1,9 +1,8 @@
 -- `vectors::run_parts` is safe: each part lies within its buffer.
 use borrow.Author.Needs.{needs}
-use native.Mathlib.Omega.{arith}
 use Prim.Native.Nat.{ℕ, _≤_}
 use mathlib.Core.Path.{_≡_, sym}
-use lib.ListN.{length, take}
+use lib.ListN.{length}
 use lib.Seq.{length-take-le}
 use Rattle.vectors.specs.declared.Part.{Part}
 use Rattle.vectors.specs.declared.Part.the-variants.{Bytes}

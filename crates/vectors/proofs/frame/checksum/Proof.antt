@@ -1,18 +1,14 @@
 -- `vectors::frame::checksum` meets its contract. The invariant: the bytes from `i` on take the two sums to the checksum.
 use borrow.Author.Needs.{needs}
 use native.Mathlib.Omega.{arith}
-use Prim.Native.Nat.{ℕ, _+_, _-_, _*_, _%_, _^_, _≤_, _<_}
-use mathlib.Core.Path.{_≡_, refl, sym, ap, _∙_}
+use Prim.Native.Nat.{ℕ, _+_, _-_, _%_, _≤_, _<_}
+use mathlib.Core.Path.{_≡_, sym, ap, _∙_}
 use lib.ListN.{length, drop, getD}
 use lib.Seq.{drop-length}
 use Rattle.vectors.specs.Frame.{adler, adler32}
 use Rattle.vectors.proofs.Numbers.{adler-next}
 use Rattle.vectors.proofs.frame.checksum.Statement.{statement}
 use Rattle.vectors.proofs.frame.checksum.Tie as tie
-use Rattle.vectors.proofs.frame.checksum.Reads as reads
-use Rattle.vectors.proofs.frame.checksum.Lts as lts
-use Rattle.vectors.proofs.frame.reduced.Reads as reduced-reads
-use Rattle.vectors.proofs.frame.wide.Reads as wide-reads
 
 abbrev Inv-loop : tie.InvT-loop
 Inv-loop bytes low₀ high₀ i₀ low high i = (i ≤ length bytes) × (low < 65521) × (high < 65521) × (adler low high (drop i bytes) ≡ adler 1 0 bytes)

@@ -1,17 +1,14 @@
 -- `vectors::frame::number` meets its contract. The invariant: `value` is what the bytes from `i` on spell.
 use borrow.Author.Needs.{needs}
 use native.Mathlib.Omega.{arith}
-use Prim.Native.Nat.{ℕ, _+_, _-_, _*_, _%_, _^_, _≤_, _<_}
-use mathlib.Core.Path.{_≡_, refl, sym, ap, _∙_}
+use Prim.Native.Nat.{ℕ, _+_, _-_, _*_, _^_, _≤_, _<_}
+use mathlib.Core.Path.{_≡_, sym, ap, _∙_}
 use lib.ListN.{length, drop, getD}
 use lib.Seq.{drop-length}
 use Rattle.vectors.specs.Frame.{little}
 use Rattle.vectors.proofs.Numbers.{little-next, little-fits}
 use Rattle.vectors.proofs.frame.number.Statement.{statement}
 use Rattle.vectors.proofs.frame.number.Tie as tie
-use Rattle.vectors.proofs.frame.number.Reads as reads
-use Rattle.vectors.proofs.frame.number.Lts as lts
-use Rattle.vectors.proofs.frame.wide.Reads as wide-reads
 
 abbrev Inv-loop : tie.InvT-loop
 Inv-loop bytes i₀ value₀ i value = (i ≤ length bytes) × (value ≡ little (drop i bytes))

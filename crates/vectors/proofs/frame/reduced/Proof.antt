@@ -1,8 +1,6 @@
 -- `vectors::frame::reduced` meets its contract.
 use borrow.Author.Needs.{needs}
-use native.Mathlib.Omega.{arith}
-use Prim.Native.Nat.{ℕ, _-_, _%_, _<_}
-use mathlib.Core.Path.{_≡_}
+use Prim.Native.Nat.{_-_}
 use Rattle.vectors.proofs.frame.reduced.Statement.{statement}
 use Rattle.vectors.proofs.frame.reduced.Tie as tie
 

@@ -1,10 +1,5 @@
 -- `vectors::lines::put_areas` meets its contract: the two checksums.
 use borrow.Author.Needs.{needs}
-use native.Mathlib.Omega.{arith}
-use Prim.Native.Nat.{ℕ, _+_, _≤_}
-use mathlib.Core.Path.{_≡_, refl, sym, ap, _∙_}
-use mathlib.Core.List.{List, [], _∷_, _++_}
-use lib.ListN.{length, take}
 use Rattle.vectors.specs.Lines.{areasText}
 use Rattle.vectors.proofs.lines.put_areas.Statement.{statement}
 use Rattle.vectors.proofs.lines.put_areas.Tie as tie

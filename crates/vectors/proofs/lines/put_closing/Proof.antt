@@ -1,10 +1,5 @@
 -- `vectors::lines::put_closing` meets its contract, variant by variant.
 use borrow.Author.Needs.{needs}
-use native.Mathlib.Omega.{arith}
-use Prim.Native.Nat.{ℕ, _+_, _≤_}
-use mathlib.Core.Path.{_≡_, refl, sym, ap, _∙_}
-use mathlib.Core.List.{List, [], _∷_, _++_}
-use lib.ListN.{length, take}
 use Rattle.vectors.specs.Lines.{closingText}
 use Rattle.vectors.proofs.lines.put_closing.Statement.{statement}
 use Rattle.vectors.proofs.lines.put_closing.Tie as tie

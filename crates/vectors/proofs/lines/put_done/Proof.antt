@@ -1,10 +1,8 @@
 -- `vectors::lines::put_done` meets its contract: what its three calls write, one after another.
 use borrow.Author.Needs.{needs}
-use native.Mathlib.Omega.{arith}
-use Prim.Native.Nat.{ℕ, _+_, _≤_}
-use mathlib.Core.Path.{_≡_, refl, sym, ap, _∙_}
-use mathlib.Core.List.{List, [], _∷_, _++_}
-use lib.ListN.{length, take}
+use Prim.Native.Nat.{_+_, _≤_}
+use mathlib.Core.List.{[], _∷_, _++_}
+use lib.ListN.{length}
 use Rattle.report.specs.Text.{decimal}
 use Rattle.vectors.specs.Lines.{grewText, doneText}
 use Rattle.report.proofs.Writing.{after, front, rest}

@@ -1,10 +1,6 @@
 -- `vectors::lines::put_tail` meets its contract: the checksums and then the line feed.
 use borrow.Author.Needs.{needs}
-use native.Mathlib.Omega.{arith}
-use Prim.Native.Nat.{ℕ, _+_, _≤_}
-use mathlib.Core.Path.{_≡_, refl, sym, ap, _∙_}
-use mathlib.Core.List.{List, [], _∷_, _++_}
-use lib.ListN.{length, take}
+use mathlib.Core.List.{[], _∷_}
 use Rattle.vectors.specs.Lines.{areasText}
 use Rattle.report.proofs.Writing.{after, front, rest}
 use Rattle.vectors.proofs.lines.put_tail.Statement.{statement}

@@ -1,10 +1,10 @@
 -- `vectors::lines::rounded_line` meets its contract: the answer, the checksums and the line feed.
 use borrow.Author.Needs.{needs}
 use native.Mathlib.Omega.{arith}
-use Prim.Native.Nat.{ℕ, _+_, _≤_}
-use mathlib.Core.Path.{_≡_, refl, sym, ap, _∙_}
-use mathlib.Core.List.{List, [], _∷_, _++_}
-use lib.ListN.{length, take}
+use Prim.Native.Nat.{_+_, _≤_}
+use mathlib.Core.Path.{sym}
+use mathlib.Core.List.{[], _∷_, _++_}
+use lib.ListN.{length}
 use lib.Seq.{length-take-le}
 use Rattle.vectors.specs.Lines.{roundedText, roundedLine, areasText}
 use Rattle.report.proofs.Writing.{after, front, rest}
