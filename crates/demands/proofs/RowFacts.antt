@@ -52,11 +52,6 @@ pub row-of : ℕ → Fact → List ℕ
 row-of zero X = []
 row-of (suc w) X = X 0 ∷ row-of w (λ k. X (suc k))
 
-pub length-row-of : (w : ℕ) (X : Fact) → length (row-of w X) ≡ w
-unfolding row-of
-length-row-of zero X = refl
-length-row-of (suc w) X = ap suc (length-row-of w (λ k. X (suc k)))
-
 row-of-at : (w : ℕ) (X : Fact) → Below w X → (k : ℕ) → getD (row-of w X) k 0 ≡ X k
 unfolding row-of
 row-of-at zero X h k = sym (h k (omega arith))

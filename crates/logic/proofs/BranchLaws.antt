@@ -165,16 +165,6 @@ module _ {A : Type 0} (plus : A → A → A) (assoc : (a b c : A) → plus (plus
   unfolding openedAll opened
   openedAll-par one none G H Δ = sums-assoc (opened one plus G) (opened one plus H) (openedAll one plus none Δ)
 
-  module _ (one : ℕ → A) (none : A) (unit : (a : A) → plus none a ≡ a) where
-    -- the branches of two contexts side by side
-    pub openedAll-append : (Γ Δ : List Goal)
-        → openedAll one plus none (Γ ++ Δ) ≡ sums plus (openedAll one plus none Γ) (openedAll one plus none Δ)
-    unfolding openedAll
-    openedAll-append [] Δ = sym (sums-one plus none unit (openedAll one plus none Δ))
-    openedAll-append (G ∷ Γ) Δ =
-        ap (sums plus (opened one plus G)) (openedAll-append Γ Δ)
-        ∙ sym (sums-assoc (opened one plus G) (openedAll one plus none Γ) (openedAll one plus none Δ))
-
 -- an order read goal by goal from the left, each goal's branches summed to those of the leading run before it
 unfoldable pub openedFrom : {A : Type 0} → (ℕ → A) → (A → A → A) → List A → List Goal → List A
 openedFrom one plus run [] = run
