@@ -1,35 +1,24 @@
 -- The answers of the calls taken apart: which checks were passed, and what then decided.
-use Prim.Native.Nat.{ℕ, zero, suc, _≤_, _/_}
+use Prim.Native.Nat.{ℕ, zero, suc, _≤_}
 use native.Mathlib.Omega.{arith}
 use mathlib.Core.Bool.{Bool, true, false, _&&_, cond}
 use mathlib.Core.Path.{_≡_, refl, sym, ap, ap₂, _∙_}
 use mathlib.Core.List.{List, [], _∷_, map}
 use mathlib.Core.Logic.{_⊎_, inl, inr, _↔_}
-use lib.Dec.{ltb, leb}
-use lib.ListN.{length, take, drop, getD}
-use Rattle.tokens.specs.Rows.{rows}
+use lib.Dec.{leb}
+use lib.ListN.{length}
 use Rattle.tokens.specs.Tables.{well-formed}
 use Rattle.logic.specs.Goals.{Goal, Clause}
 use Rattle.goals.specs.Parsing.{Parsed, goal, fault, parseAt}
-use Rattle.goals.specs.Limits.{within, runs-within}
-use Rattle.goals.specs.Readings.{Reading, read, refused as misread, _>>=_, padded, climbs, front, head, ends, body, rule, Program, clauses, refused-at, program, first, goals, order as order-of}
+use Rattle.goals.specs.Limits.{runs-within}
+use Rattle.goals.specs.Readings.{Reading, read, refused as misread, _>>=_, ends, Program, clauses, refused-at, program, first, goals, order as order-of}
 use Rattle.goals.specs.Sets.{opening, order-rows, opened-order}
-use Rattle.goals.proofs.CallerLaws.{program-refused}
 use Rattle.rounds.specs.Round.{limits, Run, going, stopped, Rule, Growth, round, Closing, closed, refused as refused-in, close, answer}
 use Rattle.rounds.proofs.ClosingLaws.{close-closed, close-refused}
 use Rattle.table.specs.Calls.{Outcome, given, refused, check, kinds-fit, capacity-fits, rounds-fit, areas-fit, rules-fit, rows-fit, with-rules, saved, Closure, ended, closing-of, rounded, rounding-of, asked, asking-of}
+use Rattle.table.proofs.OutcomeLaws.{given-is, given-refused, refused-is}
+use Rattle.table.proofs.CheckLaws.{program-number}
 use Rattle.demands.specs.Statements.{Admitted, Closes, Stops, RoundAdmitted, RoundEnds}
-
--- ---- outcomes
-
-pub given-is : {A : Type 0} {a b : A} → _≡_ {A = Outcome A} (given a) (given b) → a ≡ b
-given-is e = cc
-
-pub given-refused : {A B : Type 0} {a : A} {k i : ℕ} → _≡_ {A = Outcome A} (given a) (refused k i) → B
-given-refused e = absurd (let z : _≡_ {A = ℕ} 0 1 = cc in let w : ⊥ = omega arith in w)
-
-pub refused-is : {A : Type 0} {k i m j : ℕ} → _≡_ {A = Outcome A} (refused k i) (refused m j) → (k ≡ m) × (i ≡ j)
-refused-is e = ((cc), (cc))
 
 -- ---- checks
 
@@ -79,23 +68,6 @@ denied false a j k e = same-number e
 in-steps : {A B : Type 0} (N : ℕ → Type 0) (m : Reading A) (f : A → Reading B) (k : ℕ) → (m ≡ misread k → N k) → ((a : A) → f a ≡ misread k → N k) → (m >>= f) ≡ misread k → N k
 in-steps N (read a) f k g h e = h a e
 in-steps N (misread j) f k g h e = g (ap misread (same-number e))
-
--- a rule record is refused by 4, 5 or 6
-rule-number : (n : ℕ) (s : List ℕ) (k : ℕ) → rule n s ≡ misread k → k ≤ 6
-unfolding rule head body
-rule-number n s k e =
-    in-steps (λ j. j ≤ 6) (head n (take 16 s)) _ k
-    (λ h. let z : 4 ≡ k = denied (ltb 0 (front n (take 16 s)) && (climbs (take (front n (take 16 s)) (take 16 s)) && padded (drop (front n (take 16 s)) (take 16 s)))) (take (front n (take 16 s)) (take 16 s)) 4 k h in omega arith)
-    (λ h d. in-steps (λ j. j ≤ 6) (body n (drop 16 s)) _ k (λ b. bodies (parseAt n (drop 16 s) 0) b)
-    (λ G f. let z : 6 ≡ k = denied (within 16 G) (record { head = h; body = G }) 6 k f in omega arith) d) e
-  where
-    bodies : (p : Parsed) → ends (drop 16 s) p ≡ misread k → k ≤ 6
-    bodies (goal G m) b = let z : 5 ≡ k = denied (padded (drop m (drop 16 s))) G 5 k b in omega arith
-    bodies fault b = let z : 5 ≡ k = same-number b in omega arith
-
--- a rule set is refused by 4, 5 or 6
-pub program-number : (n : ℕ) (s : List ℕ) (k i : ℕ) → program n s ≡ refused-at k i → k ≤ 6
-program-number n s k i e = rule-number n (getD (rows 64 (length s / 64) s) i []) k (program-refused n s k i e .here)
 
 -- an order is refused by 10 or by 6
 goals-number : (f n : ℕ) (s : List ℕ) (at k : ℕ) → goals f n s at ≡ misread k → k ≡ 10

@@ -24,11 +24,12 @@ use Rattle.rounds.proofs.ClosingLaws.{closed-stays}
 use Rattle.rounds.proofs.TidyLaws.{rounds-tidy}
 use Rattle.table.specs.Calls.{given, refused, saved, Closure, closing-of, rounding-of, asked, table-after}
 use Rattle.demands.specs.Facts.{fact}
+use Rattle.table.proofs.OutcomeLaws.{given-is}
 use Rattle.demands.specs.Statements.{Closes, Stops, Why, MinimalRows, RoundEnds, OneRound, front-rows, Decides}
 use Rattle.demands.proofs.Spelling.{spelt, sized, heads-blank}
 use Rattle.demands.proofs.RoundFacts.{rounds-after, rounds-minimal, rounds-answer, closed-answer, closed-first}
 use Rattle.demands.proofs.WhyLaws.{stops-why, round-says}
-use Rattle.demands.proofs.CallLaws.{given-is, closing-closed, closing-stopped, rounding-given, rounding-stopped}
+use Rattle.demands.proofs.CallLaws.{closing-closed, closing-stopped, rounding-given, rounding-stopped}
 use Rattle.demands.proofs.DecideLaws.{left-rows, left-decides}
 
 -- ---- demand 2

@@ -8,7 +8,7 @@ use lib.ListN.{length}
 use Rattle.tokens.specs.Sets.{empty, minus, join, plus}
 use Rattle.tokens.specs.Tables.{every, Wide}
 use Rattle.tokens.proofs.Tests.{and-l, and-r}
-use Rattle.tokens.proofs.SetLaws.{length-minus, length-join, length-plus}
+use Rattle.tokens.proofs.SetLaws.{length-empty, length-minus, length-join, length-plus}
 use Rattle.tokens.proofs.TableLaws.{wide-mem}
 use Rattle.logic.specs.Facts.{Fact, ϵ, _⊕_, _∖_, _•_, occ}
 use Rattle.logic.specs.Goals.{Clause, _∈_}
@@ -21,7 +21,7 @@ use Rattle.logic.proofs.Contexts.{branches-alone}
 use Rattle.logic.proofs.Joins.{Joined, j-none, j-more, joined-cons, joined-nil, Less, sat-iff}
 use Rattle.goals.specs.Codes.{is-kind}
 use Rattle.goals.specs.Sets.{set-of, opening}
-use Rattle.goals.proofs.RowLaws.{length-empty, length-set-of, set-of-fact, branch-rows-are, branch-kinds}
+use Rattle.goals.proofs.RowLaws.{length-set-of, set-of-fact, branch-rows-are, branch-kinds}
 use Rattle.rounds.specs.Round.{Rule}
 use Rattle.rounds.specs.Earns.{Chosen, chosen, choose, OfRules}
 use Rattle.rounds.proofs.RoundLaws.{of-rules-wide}

@@ -20,7 +20,7 @@ use Rattle.rounds.specs.Round.{limits, going, after, each, fitting, hold, meet,
 use Rattle.table.specs.Calls.{given, refused, check, between, kinds-fit, capacity-fits, rounds-fit, table-needs, work-needs, areas-fit, rules-fit, rows-fit, with-rules, saved, Closure, ended, closing-of, asked, asking-of, laid, table-after, work-after}
 use Rattle.table.specs.Answers.{Counts, counted}
 use Rattle.demands.specs.Idle.{Closer, MeetsClosing, Asker, MeetsAsking}
-use Rattle.demands.proofs.CallLaws.{given-refused}
+use Rattle.table.proofs.OutcomeLaws.{given-refused}
 use Rattle.demands.proofs.Examples.{Q, Q-clauses, Q-rows, bytes, sevens}
 
 -- ---- what the contract gives on some inputs, computed

@@ -8,10 +8,9 @@ use mathlib.Core.Logic.{_↔_}
 use lib.ListN.{length, getD, List·getD-eq-default}
 use Rattle.tokens.specs.Sets.{empty, included, minus, join, plus}
 use Rattle.tokens.specs.Tables.{covered, Wide}
-use Rattle.tokens.proofs.SetLaws.{included-at, at-included, minus-at, join-at, plus-at, same-at}
+use Rattle.tokens.proofs.SetLaws.{empty-at, included-at, at-included, minus-at, join-at, plus-at, same-at}
 use Rattle.tokens.proofs.TableLaws.{covering, covers, wide-mem, Orderly}
 use Rattle.tokens.proofs.UniqueLaws.{apart-mem}
-use Rattle.goals.proofs.RowLaws.{empty-at}
 use Rattle.logic.specs.Facts.{Fact, _≼_, ϵ, _⊕_, _∖_, _•_}
 use Rattle.logic.specs.Goals.{_∈_}
 use Rattle.logic.specs.Order.{Covers, Listed}

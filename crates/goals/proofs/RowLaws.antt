@@ -7,13 +7,14 @@ use native.Mathlib.Nat.{le-trans}
 use native.Mathlib.Numerals.{add-one}
 use native.Mathlib.Omega.{arith}
 use lib.Dec.{ltb, leb, eqb}
-use lib.ListN.{length, getD, set, take, replicate, length-append, length-set, length-replicate}
+use lib.ListN.{length, getD, set, take, replicate, length-append, length-set}
 use lib.Seq.{take-suc, length-take-le, getD-set-same, getD-set-other}
 use borrow.Author.Tests.{le-leb, leb-true, ltb-true, eqb-true, eqb-false}
 use Rattle.tokens.specs.Sets.{empty, plus, cut, over}
 use Rattle.tokens.specs.Tables.{every, blank-from, Wide, none, more}
 use Rattle.tokens.proofs.Tests.{both, and-l, and-r}
-use Rattle.tokens.proofs.SetLaws.{same-at, plus-at, zeros-at, length-plus, plus-assoc, cut-at, length-cut, at-over, cut-same}
+use Rattle.tokens.proofs.SetLaws.{same-at, plus-at, zeros-at, empty-at, length-empty, length-plus, plus-assoc, cut-at, length-cut, at-over, cut-same}
+use Rattle.tokens.proofs.TableLaws.{every-imp}
 use Rattle.tokens.proofs.BlankLaws.{at-blank}
 use Rattle.tokens.proofs.FormLaws.{every-append}
 use Rattle.logic.specs.Facts.{occ, one-if}
@@ -26,14 +27,6 @@ use Rattle.goals.specs.Views.{capped}
 use Rattle.goals.specs.Printing.{print, prints, below}
 
 -- ---- one kind, and the set of a list of kinds
-
-pub length-empty : length empty ≡ 32
-unfolding empty
-length-empty = length-replicate {A = ℕ} 32 0
-
-pub empty-at : (k : ℕ) → getD empty k 0 ≡ 0
-unfolding empty
-empty-at k = zeros-at 32 k
 
 pub length-one : (k : ℕ) → length (one k) ≡ 32
 unfolding one
@@ -117,11 +110,6 @@ order-rows-are Δ = sym (openedAll-map set-of _++_ plus set-of-append (λ k. k �
 
 -- ---- what holds of every branch
 
-pub every-mono : {A : Type 0} (p q : A → Bool) → ((a : A) → p a ≡ true → q a ≡ true) → (l : List A) → every p l ≡ true → every q l ≡ true
-unfolding every
-every-mono p q h [] e = refl
-every-mono p q h (x ∷ l) e = both (q x) _ (h x (and-l (p x) _ e)) (every-mono p q h l (and-r (p x) _ e))
-
 pub every-map : {A B : Type 0} (p : B → Bool) (f : A → B) (l : List A) → every p (map f l) ≡ every (λ a. p (f a)) l
 unfolding every
 every-map p f [] = refl
@@ -183,8 +171,8 @@ branch-short (G ⅋ H) =
     (branches G) (branches H) (branch-short G) (branch-short H)
 branch-short (G & H) =
     every-both _ (branches G) (branches H)
-    (every-mono _ _ (room (length (print G)) (suc (length (print G ++ print H))) (omega (arith, length-append (print G) (print H)))) (branches G) (branch-short G))
-    (every-mono _ _ (room (length (print H)) (suc (length (print G ++ print H))) (omega (arith, length-append (print G) (print H)))) (branches H) (branch-short H))
+    (every-imp _ _ (room (length (print G)) (suc (length (print G ++ print H))) (omega (arith, length-append (print G) (print H)))) (branches G) (branch-short G))
+    (every-imp _ _ (room (length (print H)) (suc (length (print G ++ print H))) (omega (arith, length-append (print G) (print H)))) (branches H) (branch-short H))
 
 pub context-short : (Δ : List Goal) → every (no-longer (length (prints Δ))) (branchesC Δ) ≡ true
 unfolding openedAll prints every
@@ -201,12 +189,12 @@ wide-sets [] = none
 wide-sets (b ∷ L) = more (length-set-of b) (wide-sets L)
 
 pub blank-sets : (n : ℕ) (L : List (List ℕ)) → every (every (is-kind n)) L ≡ true → every (blank-from n) (map set-of L) ≡ true
-blank-sets n L e = every-map (blank-from n) set-of L ∙ every-mono _ _ (λ b h. at-blank n (set-of b) (λ k. set-of-from n b h (n + k) (omega arith))) L e
+blank-sets n L e = every-map (blank-from n) set-of L ∙ every-imp _ _ (λ b h. at-blank n (set-of b) (λ k. set-of-from n b h (n + k) (omega arith))) L e
 
 pub low-sets : (m : ℕ) (L : List (List ℕ)) → every (no-longer m) L ≡ true → every (λ r. not (over m r)) (map set-of L) ≡ true
 low-sets m L e =
     every-map (λ r. not (over m r)) set-of L
-    ∙ every-mono (no-longer m) (λ b. not (over m (set-of b))) (λ b h. ap not (at-over m (set-of b) (λ k. le-trans (set-of-low b k) (leb-true _ _ h)))) L e
+    ∙ every-imp (no-longer m) (λ b. not (over m (set-of b))) (λ b h. ap not (at-over m (set-of b) (λ k. le-trans (set-of-low b k) (leb-true _ _ h)))) L e
 
 -- "A row is 32 bytes"
 pub branch-wide : (G : Goal) → Wide 32 (branch-rows G)
@@ -226,12 +214,12 @@ order-blank n Δ e = rw (order-rows-are Δ) (blank-sets n (branchesC Δ) (contex
 pub branch-low : (m : ℕ) (G : Goal) → length (print G) ≤ m → every (λ r. not (over m r)) (branch-rows G) ≡ true
 branch-low m G h =
     rw (branch-rows-are G)
-    (low-sets m (branches G) (every-mono _ _ (room (length (print G)) m h) (branches G) (branch-short G)))
+    (low-sets m (branches G) (every-imp _ _ (room (length (print G)) m h) (branches G) (branch-short G)))
 
 pub order-low : (m : ℕ) (Δ : List Goal) → length (prints Δ) ≤ m → every (λ r. not (over m r)) (order-rows Δ) ≡ true
 order-low m Δ h =
     rw (order-rows-are Δ)
-    (low-sets m (branchesC Δ) (every-mono _ _ (room (length (prints Δ)) m h) (branchesC Δ) (context-short Δ)))
+    (low-sets m (branchesC Δ) (every-imp _ _ (room (length (prints Δ)) m h) (branchesC Δ) (context-short Δ)))
 
 -- ---- sums that may be cut
 
@@ -289,7 +277,7 @@ set-of-more s i h k =
 pub branch-capped : (G : Goal) → length (print G) ≤ 255 → opened one capped G ≡ branch-rows G
 branch-capped G h =
     sym (opened-map capped-set _++_ capped capped-append (λ k. k ∷ []) one capped-one G)
-    ∙ map-short (branches G) (every-mono _ _ (room (length (print G)) 255 h) (branches G) (branch-short G))
+    ∙ map-short (branches G) (every-imp _ _ (room (length (print G)) 255 h) (branches G) (branch-short G))
     ∙ sym (branch-rows-are G)
 
 openedAll-capped : (Δ : List Goal) → map capped-set (branchesC Δ) ≡ openedAll one capped empty Δ
@@ -298,7 +286,7 @@ openedAll-capped Δ = openedAll-map capped-set _++_ capped capped-append (λ k. 
 pub order-capped : (Δ : List Goal) → length (prints Δ) ≤ 255 → openedAll one capped empty Δ ≡ order-rows Δ
 order-capped Δ h =
     sym (openedAll-capped Δ)
-    ∙ map-short (branchesC Δ) (every-mono _ _ (room (length (prints Δ)) 255 h) (branchesC Δ) (context-short Δ))
+    ∙ map-short (branchesC Δ) (every-imp _ _ (room (length (prints Δ)) 255 h) (branchesC Δ) (context-short Δ))
     ∙ sym (order-rows-are Δ)
 
 -- an order read from the left

@@ -1,3 +1,4 @@
+pub mod OutcomeLaws
 pub mod RoundLoop
 pub mod ClosingLoop
 pub mod EndLaws
