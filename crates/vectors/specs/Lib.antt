@@ -1,3 +1,4 @@
+pub mod Cases
 pub mod Frame
 pub mod Lines
 pub mod Parts

@@ -9,6 +9,7 @@ ghost use Prim.Native.Nat.{_≤_};
 ghost use lib.ListN.{length};
 ghost use Rattle.io.specs.Counts.{Counts};
 ghost use Rattle.vectors.specs.Parts.{fitsIn};
+ghost use Rattle.vectors.specs.Cases.{CaseRun};
 
 // Makes the call that a frame's head names, and puts its line into `line`.
 fn answer(
@@ -21,6 +22,7 @@ fn answer(
     line: &mut [u8],
 ) -> usize
     requires { ⌜ 256 ≤ length (now line) ⌝ }
+    ensures { λ r. ⌜ CaseRun head (now (rules .entry)) (now (rows .entry)) (now (order .entry)) (now (table .entry)) (now (work .entry)) (now (line .entry)) (now (table .exit)) (now (work .exit)) (now (line .exit)) r ⌝ }
     ensures { λ r. ⌜ Counts r (now (line .exit)) ⌝ }
 {
     if head.call == 0 {
