@@ -13,7 +13,7 @@ use Rattle.goals.specs.Parsing.{Parsed, goal, fault, parseAt}
 use Rattle.goals.specs.Limits.{runs-within}
 use Rattle.goals.specs.Readings.{Reading, read, refused as misread, _>>=_, ends, Program, clauses, refused-at, program, first, goals, order as order-of}
 use Rattle.goals.specs.Sets.{opening, order-rows, opened-order}
-use Rattle.rounds.specs.Round.{limits, Run, going, stopped, Rule, Growth, round, Closing, closed, refused as refused-in, close, answer}
+use Rattle.rounds.specs.Round.{limits, Run, going, stopped, Rule, Growth, round, Ending, closed, refused as refused-in, close, answer}
 use Rattle.rounds.proofs.ClosingLaws.{close-closed, close-refused}
 use Rattle.table.specs.Calls.{Outcome, given, refused, check, kinds-fit, capacity-fits, rounds-fit, areas-fit, rules-fit, rows-fit, with-rules, saved, Closure, ended, closing-of, rounded, rounding-of, asked, asking-of}
 use Rattle.table.proofs.OutcomeLaws.{given-is, given-refused, refused-is}
@@ -96,12 +96,12 @@ order-number n s k e =
 
 -- ---- closing
 
-ended-given : (q : Closing) (t : List (List ℕ)) (g : ℕ) → ended q ≡ given (record { table = t; grown = g }) → q ≡ closed t g
+ended-given : (q : Ending) (t : List (List ℕ)) (g : ℕ) → ended q ≡ given (record { table = t; grown = g }) → q ≡ closed t g
 unfolding ended
 ended-given (closed u h) t g e = let p = given-is e in ap₂ closed (ap (λ (c : Closure). c .table) p) (ap (λ (c : Closure). c .grown) p)
 ended-given (refused-in k h) t g e = given-refused (sym e)
 
-ended-refused : (q : Closing) (k g : ℕ) → ended q ≡ refused k g → q ≡ refused-in k g
+ended-refused : (q : Ending) (k g : ℕ) → ended q ≡ refused k g → q ≡ refused-in k g
 unfolding ended
 ended-refused (closed u h) k g e = given-refused e
 ended-refused (refused-in m h) k g e = let p = refused-is e in ap₂ refused-in (p .0) (p .1)

@@ -17,14 +17,14 @@ use Rattle.logic.specs.Goals.{Goal, Clause, _∈_}
 use Rattle.logic.specs.Branches.{openedAll, ways, branches, branchesC}
 use Rattle.logic.proofs.FewKinds.{HeadsBelow}
 use Rattle.logic.proofs.BranchLaws.{length-sums, length-opened}
-use Rattle.goals.specs.declared.Outcome.{Outcome}
-use Rattle.goals.specs.declared.Outcome.the-variants.{Fine, Refused}
-use Rattle.goals.specs.declared.Rule.{Rule}
-use Rattle.goals.specs.declared.Order.{Order as OrderAnswer}
+use Rattle.goals.specs.declared.Admission.{Admission}
+use Rattle.goals.specs.declared.Admission.the-variants.{Fine, Refused}
+use Rattle.goals.specs.declared.OpenedRule.{OpenedRule}
+use Rattle.goals.specs.declared.OpenedOrder.{OpenedOrder}
 use Rattle.goals.specs.Limits.{within, runs-within}
 use Rattle.goals.specs.Readings.{Reading, read, refused, _>>=_, head, body, rule, Program, clauses, refused-at, and-then, records, program, order}
 use Rattle.goals.specs.Sets.{one, set-of, branch-rows, order-rows, opening, opened-rule, opened-order}
-use Rattle.goals.specs.Answers.{rowsOf, fault-number, outcomeOf, ruleOf, orderOf, passes, stops, told}
+use Rattle.goals.specs.Answers.{rowsOf, fault-number, admissionOf, ruleOf, orderOf, passes, stops, told}
 use Rattle.goals.specs.Printing.{print}
 use Rattle.goals.proofs.Readings.{not-refused, same-read, granted, steps, known}
 use Rattle.goals.proofs.PrintLaws.{Printed, body-printed, printed-body, Headed, head-printed, printed-head, Ordered, order-printed}
@@ -73,21 +73,21 @@ pub head-blank : (n : ℕ) (s : List ℕ) (C : Clause) → Ruled n s C → blank
 head-blank n s C r = at-blank n (set-of (C .head)) (λ k. set-of-from n (C .head) (r .heading .kinds) (n + k) (omega arith))
 
 -- what the answer for such a record holds
-pub record Opens (r : Rule) (C : Clause) : Type 0 where
-  pub passed : r .outcome ≡ Fine
+pub record Opens (r : OpenedRule) (C : Clause) : Type 0 where
+  pub passed : r .admission ≡ Fine
   pub the-head : r .head ≡ set-of (C .head)
   pub the-rows : rowsOf (r .list) ≡ branch-rows (C .body)
   pub count : r .list .count ≡ ways (C .body)
   pub few : r .list .count ≤ 16
 
-outcome-read : {A : Type 0} (o : Outcome) (a b : A) → outcomeOf o a ≡ read b → (o ≡ Fine) × (a ≡ b)
-outcome-read Fine a b e = (refl, same-read a b e)
-outcome-read (Refused f) a b e = not-refused (fault-number f) b e
+admission-read : {A : Type 0} (o : Admission) (a b : A) → admissionOf o a ≡ read b → (o ≡ Fine) × (a ≡ b)
+admission-read Fine a b e = (refl, same-read a b e)
+admission-read (Refused f) a b e = not-refused (fault-number f) b e
 
-pub rule-opens : (n : ℕ) (s : List ℕ) (r : Rule) (C : Clause) → ruleOf r ≡ opened-rule n s → rule n s ≡ read C → Opens r C
+pub rule-opens : (n : ℕ) (s : List ℕ) (r : OpenedRule) (C : Clause) → ruleOf r ≡ opened-rule n s → rule n s ≡ read C → Opens r C
 unfolding opened-rule opening branch-rows
 rule-opens n s r C e d =
-    let o = outcome-read (r .outcome) (record { head = r .head; branches = rowsOf (r .list) }) (opening C) (e ∙ known (rule n s) (λ K. read (opening K)) C d) in
+    let o = admission-read (r .admission) (record { head = r .head; branches = rowsOf (r .list) }) (opening C) (e ∙ known (rule n s) (λ K. read (opening K)) C d) in
     let l : rowsOf (r .list) ≡ branch-rows (C .body) = ap (λ x. x .branches) (o .1) in
     let k : r .list .count ≡ ways (C .body) = counts (r .list) (branch-rows (C .body)) l ∙ length-opened one _ (C .body) in
     record {
@@ -228,15 +228,15 @@ unfolding ways-all
 runs-few-all m [] h e = h
 runs-few-all m (G ∷ Δ) h e = subst (λ (l : List Goal). ways-all l ≤ m) (take-length (G ∷ Δ)) (rw one-mul at (runs-few m 1 (G ∷ Δ) e .runs (length Δ) (omega arith)))
 
-pub record OpensOrder (r : OrderAnswer) (Δ : List Goal) : Type 0 where
-  pub passed : r .outcome ≡ Fine
+pub record OpensOrder (r : OpenedOrder) (Δ : List Goal) : Type 0 where
+  pub passed : r .admission ≡ Fine
   pub the-rows : rowsOf (r .list) ≡ order-rows Δ
   pub few : r .list .count ≤ 16
 
-pub order-opens : (n : ℕ) (s : List ℕ) (r : OrderAnswer) (Δ : List Goal) → orderOf r ≡ opened-order n s → order n s ≡ read Δ → OpensOrder r Δ
+pub order-opens : (n : ℕ) (s : List ℕ) (r : OpenedOrder) (Δ : List Goal) → orderOf r ≡ opened-order n s → order n s ≡ read Δ → OpensOrder r Δ
 unfolding opened-order order-rows
 order-opens n s r Δ e d =
-    let o = outcome-read (r .outcome) (rowsOf (r .list)) (order-rows Δ) (e ∙ known (order n s) (λ Γ. read (order-rows Γ)) Δ d) in
+    let o = admission-read (r .admission) (rowsOf (r .list)) (order-rows Δ) (e ∙ known (order n s) (λ Γ. read (order-rows Γ)) Δ d) in
     let k : r .list .count ≡ ways-all Δ = counts (r .list) (order-rows Δ) (o .1) ∙ length-openedAll one _ empty Δ in
     record { passed = o .0; the-rows = o .1; few = rw k (runs-few-all 16 Δ (omega arith) (order-printed n s Δ d .few)) }
 

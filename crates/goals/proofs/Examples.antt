@@ -11,7 +11,7 @@ use Rattle.goals.specs.Codes.{is-kind, code, codeAt}
 use Rattle.goals.specs.Parsing.{parse, parseAt}
 use Rattle.goals.specs.Limits.{within, runs-within}
 use Rattle.goals.specs.Readings.{Reading, read, refused, _>>=_, padded, climbs, front, head, body, rule, records, program, goals, order}
-use Rattle.rounds.specs.Round.{Rule as OpenedRule}
+use Rattle.rounds.specs.Round.{Rule}
 use Rattle.goals.specs.Sets.{one, set-of, branch-rows, order-rows, opening, opened-rule, opened-order}
 use Rattle.goals.specs.Answers.{Told, passes, stops, told}
 
@@ -30,7 +30,7 @@ unfoldable pub counts : List ℕ → List ℕ
 counts l = l ++ replicate (32 - length l) 0
 
 -- a head and branches by their first counts
-unfoldable pub opens : List ℕ → List (List ℕ) → Reading OpenedRule
+unfoldable pub opens : List ℕ → List (List ℕ) → Reading Rule
 opens h bs = read (record { head = counts h; branches = map counts bs })
 
 unfoldable pub opens-order : List (List ℕ) → Reading (List (List ℕ))
@@ -55,7 +55,7 @@ seventeen = replicate 16 66 ++ replicate 17 0
 
 pub data Example : Type 0 where
   -- a record of 64 bytes opens so, or is refused
-  a-rule : List ℕ → Reading OpenedRule → Example
+  a-rule : List ℕ → Reading Rule → Example
   -- a record opens into so many branches
   many : List ℕ → ℕ → Example
   -- a rule set passes, or is stopped

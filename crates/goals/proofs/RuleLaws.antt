@@ -15,17 +15,17 @@ use Rattle.logic.specs.Branches.{opened}
 use Rattle.goals.specs.declared.Verdict.{Verdict}
 use Rattle.goals.specs.declared.Verdict.the-variants.{Fine, Over, Bad}
 use Rattle.goals.specs.declared.Fault.{Fault}
-use Rattle.goals.specs.declared.Outcome.{Outcome}
-use Rattle.goals.specs.declared.Outcome.the-variants.{Fine as Passed, Refused}
+use Rattle.goals.specs.declared.Admission.{Admission}
+use Rattle.goals.specs.declared.Admission.the-variants.{Fine as Passed, Refused}
 use Rattle.goals.specs.declared.Opened.{Opened}
-use Rattle.goals.specs.declared.Rule.{Rule}
+use Rattle.goals.specs.declared.OpenedRule.{OpenedRule}
 use Rattle.goals.specs.declared.HeadSet.{HeadSet}
 use Rattle.goals.specs.Parsing.{Parsed, goal, fault, past, parseAt}
 use Rattle.goals.specs.Limits.{within}
 use Rattle.goals.specs.Readings.{Reading, read, refused, _>>=_, padded, head, ends, body, rule, Program, clauses, refused-at, also, and-then, records, program}
-use Rattle.rounds.specs.Round.{Rule as OpenedRule}
+use Rattle.rounds.specs.Round.{Rule}
 use Rattle.goals.specs.Sets.{one, set-of, opening, opened-rule}
-use Rattle.goals.specs.Answers.{rowsOf, fault-number, outcomeOf, ruleOf, passes, stops, told}
+use Rattle.goals.specs.Answers.{rowsOf, fault-number, admissionOf, ruleOf, passes, stops, told}
 use Rattle.goals.specs.Views.{capped, bad, viewBy, viewOf, allowed, view, bodyV, headBy, headOf, headV}
 use Rattle.goals.specs.Printing.{print}
 use Rattle.goals.proofs.Readings.{not-refused, same-read, was-read, was-refused, Both, steps, known}
@@ -96,12 +96,12 @@ says-when n s o e v d = subst (λ w. BodySays n s w (rowsOf (o .list))) d (body-
 
 -- ---- a rule record
 
-refused-set : (m : Reading (List ℕ)) (f : List ℕ → Reading OpenedRule) (k : ℕ) → (m >>= λ h. read (set-of h)) ≡ refused k → (m >>= f) ≡ refused k
+refused-set : (m : Reading (List ℕ)) (f : List ℕ → Reading Rule) (k : ℕ) → (m >>= λ h. read (set-of h)) ≡ refused k → (m >>= f) ≡ refused k
 refused-set (read h) f k e = not-refused k (set-of h) (sym e)
 refused-set (refused j) f k e = cc
 
 -- the same, in the order of its steps
-flat : (m : Reading (List ℕ)) (f : List ℕ → Reading Clause) (g : Clause → Reading OpenedRule) → ((m >>= f) >>= g) ≡ (m >>= λ h. f h >>= g)
+flat : (m : Reading (List ℕ)) (f : List ℕ → Reading Clause) (g : Clause → Reading Rule) → ((m >>= f) >>= g) ≡ (m >>= λ h. f h >>= g)
 flat (read h) f g = refl
 flat (refused k) f g = refl
 
@@ -174,24 +174,24 @@ module _ (n : ℕ) (s : List ℕ) (i : ℕ) where
   abbrev rest : ℕ → ℕ → List ℕ → ℕ → Program
   rest n c s i = records n i (drop i (rows 64 c s))
 
-  module _ (c : ℕ) (h : i < c) (r : Rule) (e : ruleOf r ≡ opened-rule n (row 64 i s)) where
+  module _ (c : ℕ) (h : i < c) (r : OpenedRule) (e : ruleOf r ≡ opened-rule n (row 64 i s)) where
     next-record : rest n c s i ≡ and-then (rule n (row 64 i s)) i (rest n c s (i + 1))
     unfolding records
     next-record = ap (records n i) (rows-from 64 c i s h) ∙ ap (λ (j : ℕ). and-then (rule n (row 64 i s)) i (records n j (drop (i + 1) (rows 64 c s)))) (sym (add-one i))
 
-    outcome-is : (o : Outcome) → r .outcome ≡ o → ruleOf r ≡ outcomeOf o (record { head = r .head; branches = rowsOf (r .list) })
-    outcome-is o d = ap (λ x. outcomeOf x (record { head = r .head; branches = rowsOf (r .list) })) d
+    admission-is : (o : Admission) → r .admission ≡ o → ruleOf r ≡ admissionOf o (record { head = r .head; branches = rowsOf (r .list) })
+    admission-is o d = ap (λ x. admissionOf x (record { head = r .head; branches = rowsOf (r .list) })) d
 
-    pub set-stops : (f : Fault) → r .outcome ≡ Refused f → stops (fault-number f) i ≡ told (rest n c s i)
+    pub set-stops : (f : Fault) → r .admission ≡ Refused f → stops (fault-number f) i ≡ told (rest n c s i)
     unfolding opened-rule
     set-stops f d =
-        let k : rule n (row 64 i s) ≡ refused (fault-number f) = was-refused (rule n (row 64 i s)) opening (fault-number f) (sym (outcome-is (Refused f) d) ∙ e) in
+        let k : rule n (row 64 i s) ≡ refused (fault-number f) = was-refused (rule n (row 64 i s)) opening (fault-number f) (sym (admission-is (Refused f) d) ∙ e) in
         sym (ap told (next-record ∙ ap (λ x. and-then x i (rest n c s (i + 1))) k))
 
-    pub set-goes-on : r .outcome ≡ Passed → told (rest n c s i) ≡ told (rest n c s (i + 1))
+    pub set-goes-on : r .admission ≡ Passed → told (rest n c s i) ≡ told (rest n c s (i + 1))
     unfolding opened-rule
     set-goes-on d =
-        let C = was-read (rule n (row 64 i s)) opening _ (sym (outcome-is Passed d) ∙ e) in
+        let C = was-read (rule n (row 64 i s)) opening _ (sym (admission-is Passed d) ∙ e) in
         ap told (next-record ∙ ap (λ x. and-then x i (rest n c s (i + 1))) (C .1)) ∙ told-also (C .0) (rest n c s (i + 1))
 
   pub set-ends : (c : ℕ) → c ≤ i → told (rest n c s i) ≡ passes

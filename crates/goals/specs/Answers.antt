@@ -5,14 +5,14 @@ use Rattle.tokens.specs.Rows.{rows}
 use Rattle.goals.specs.declared.Branches.{Branches}
 use Rattle.goals.specs.declared.Fault.{Fault}
 use Rattle.goals.specs.declared.Fault.the-variants.{Head, Body, Over, Order}
-use Rattle.goals.specs.declared.Outcome.{Outcome}
-use Rattle.goals.specs.declared.Outcome.the-variants.{Fine, Refused}
-use Rattle.goals.specs.declared.Rule.{Rule}
-use Rattle.goals.specs.declared.Order.{Order as OrderAnswer}
+use Rattle.goals.specs.declared.Admission.{Admission}
+use Rattle.goals.specs.declared.Admission.the-variants.{Fine, Refused}
+use Rattle.goals.specs.declared.OpenedRule.{OpenedRule}
+use Rattle.goals.specs.declared.OpenedOrder.{OpenedOrder}
 use Rattle.goals.specs.declared.Checked.{Checked}
 use Rattle.goals.specs.declared.Checked.the-variants.{Fine as AllFine, Refused as RefusedAt}
 use Rattle.goals.specs.Readings.{Reading, read, refused, Program, clauses, refused-at}
-use Rattle.rounds.specs.Round.{Rule as OpenedRule}
+use Rattle.rounds.specs.Round.{Rule}
 
 -- the rows that a branch list holds
 abbrev pub rowsOf : Branches → List (List ℕ)
@@ -27,17 +27,17 @@ fault-number Over = 6
 fault-number Order = 10
 
 -- a value that counts where nothing is refused
-abbrev pub outcomeOf : {A : Type 0} → Outcome → A → Reading A
-outcomeOf Fine a = read a
-outcomeOf (Refused f) a = refused (fault-number f)
+abbrev pub admissionOf : {A : Type 0} → Admission → A → Reading A
+admissionOf Fine a = read a
+admissionOf (Refused f) a = refused (fault-number f)
 
 -- the answer for a rule record: "the head" as a set, and its body's branches
-abbrev pub ruleOf : Rule → Reading OpenedRule
-ruleOf r = outcomeOf (r .outcome) (record { head = r .head; branches = rowsOf (r .list) })
+abbrev pub ruleOf : OpenedRule → Reading Rule
+ruleOf r = admissionOf (r .admission) (record { head = r .head; branches = rowsOf (r .list) })
 
 -- the answer for an order: its branches
-abbrev pub orderOf : OrderAnswer → Reading (List (List ℕ))
-orderOf r = outcomeOf (r .outcome) (rowsOf (r .list))
+abbrev pub orderOf : OpenedOrder → Reading (List (List ℕ))
+orderOf r = admissionOf (r .admission) (rowsOf (r .list))
 
 -- what a check tells of a rule set: that it passes, or the refusal that stops it and "record number from 0"
 pub data Told : Type 0 where

@@ -75,21 +75,21 @@ pub enum Fault {
 }
 
 // Whether a rule or an order is refused, and for what.
-pub enum Outcome {
+pub enum Admission {
     Fine,
     Refused(Fault),
 }
 
-// A rule record, opened: head and branches count where the outcome is Fine.
-pub struct Rule {
-    pub outcome: Outcome,
+// A rule record, opened: head and branches count where the admission is Fine.
+pub struct OpenedRule {
+    pub admission: Admission,
     pub head: [u8; 32],
     pub list: Branches,
 }
 
-// An order, opened: the branches count where the outcome is Fine.
-pub struct Order {
-    pub outcome: Outcome,
+// An order, opened: the branches count where the admission is Fine.
+pub struct OpenedOrder {
+    pub admission: Admission,
     pub list: Branches,
 }
 
@@ -472,18 +472,18 @@ fn read_head(head: &[u8], kinds: usize) -> HeadSet
 }
 
 // The answer for a rule record that is refused.
-fn refused_rule(fault: Fault) -> Rule
+fn refused_rule(fault: Fault) -> OpenedRule
     ensures { λ r. ⌜ ruleOf r ≡ Reading.refused (fault-number fault) ⌝ }
 {
-    Rule {
-        outcome: Outcome::Refused(fault),
+    OpenedRule {
+        admission: Admission::Refused(fault),
         head: [0u8; 32],
         list: none(),
     }
 }
 
 // A rule record of 64 bytes, opened: its head as a set and its body's branches, or refusal 4, 5 or 6, in this order.
-pub fn open_rule(rule: &[u8], kinds: usize) -> Rule
+pub fn open_rule(rule: &[u8], kinds: usize) -> OpenedRule
     requires { ⌜ length (now rule) ≡ 64 ⌝ }
     ensures { λ r. ⌜ ruleOf r ≡ opened-rule kinds (now (rule .entry)) ⌝ }
 {
@@ -499,8 +499,8 @@ pub fn open_rule(rule: &[u8], kinds: usize) -> Rule
     match verdict {
         Verdict::Bad => refused_rule(Fault::Body),
         Verdict::Over => refused_rule(Fault::Over),
-        Verdict::Fine => Rule {
-            outcome: Outcome::Fine,
+        Verdict::Fine => OpenedRule {
+            admission: Admission::Fine,
             head,
             list,
         },
@@ -517,12 +517,12 @@ pub fn check_rules(rules: &[u8], kinds: usize) -> Checked
         let from = i * 64;
         let to = from + 64;
         let rule = open_rule(&rules[from..to], kinds);
-        let outcome = rule.outcome;
-        match outcome {
-            Outcome::Refused(fault) => {
+        let admission = rule.admission;
+        match admission {
+            Admission::Refused(fault) => {
                 return Checked::Refused(fault, i);
             }
-            Outcome::Fine => {
+            Admission::Fine => {
                 i += 1;
             }
         }
@@ -557,17 +557,17 @@ fn join_goals(s: &[u8], kinds: usize) -> Opened
 }
 
 // The answer for an order that is refused.
-fn refused_order(fault: Fault) -> Order
+fn refused_order(fault: Fault) -> OpenedOrder
     ensures { λ r. ⌜ orderOf r ≡ Reading.refused (fault-number fault) ⌝ }
 {
-    Order {
-        outcome: Outcome::Refused(fault),
+    OpenedOrder {
+        admission: Admission::Refused(fault),
         list: none(),
     }
 }
 
 // An order of any length, opened: its branches, or refusal 10 or 6, in this order.
-pub fn open_order(order: &[u8], kinds: usize) -> Order
+pub fn open_order(order: &[u8], kinds: usize) -> OpenedOrder
     ensures { λ r. ⌜ orderOf r ≡ opened-order kinds (now (order .entry)) ⌝ }
 {
     if 64 < order.len() {
@@ -579,8 +579,8 @@ pub fn open_order(order: &[u8], kinds: usize) -> Order
     match verdict {
         Verdict::Bad => refused_order(Fault::Order),
         Verdict::Over => refused_order(Fault::Over),
-        Verdict::Fine => Order {
-            outcome: Outcome::Fine,
+        Verdict::Fine => OpenedOrder {
+            admission: Admission::Fine,
             list,
         },
     }

@@ -6,7 +6,7 @@ use mathlib.Core.Path.{_≡_, refl}
 use lib.ListN.{replicate}
 use Rattle.tokens.specs.Sets.{empty, included, zip, minus, join, plus, over, before}
 use Rattle.tokens.specs.Tables.{every, covered, without, place, insert, placed, put}
-use Rattle.rounds.specs.Round.{after, each, Rule, Limits, fitting, hold, meet, weave, holding, grown, offer, step, round, Closing, closed, refused, next, closing, close, answer}
+use Rattle.rounds.specs.Round.{after, each, Rule, Limits, fitting, hold, meet, weave, holding, grown, offer, step, round, Ending, closed, refused, next, closing, close, answer}
 use Rattle.rounds.specs.Earns.{headed}
 use Rattle.rounds.proofs.ClosingLaws.{answer-empty}
 
@@ -91,7 +91,7 @@ Turns-rows = two 2 3 ∷ (one 1 ∷ (two 0 3 ∷ []))
 
 -- rules, capacity and permitted rounds with what closing answers; a table and an order's branches with the answer; branches with the answer on any closed table
 pub data Example : Type 0 where
-  closes : List Rule → ℕ → ℕ → Closing → Example
+  closes : List Rule → ℕ → ℕ → Ending → Example
   asks : List (List ℕ) → List (List ℕ) → Bool → Example
   asks-any : List (List ℕ) → Bool → Example
 

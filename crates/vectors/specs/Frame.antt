@@ -10,8 +10,8 @@ little [] = 0
 little (b ∷ bs) = b + 256 * little bs
 
 -- the head of a case: the call; kinds, capacity and rounds, of 8 bytes each; the lengths of the areas, of 4; and the byte that fills them
-unfoldable pub headOf : List ℕ → Head
-headOf s = record {
+unfoldable pub caseHead : List ℕ → Head
+caseHead s = record {
   call = getD s 0 0;
   kinds = little (take 8 (drop 1 s));
   capacity = little (take 8 (drop 9 s));

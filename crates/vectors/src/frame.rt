@@ -2,7 +2,7 @@
 ghost use Prim.Native.Nat.{_≤_, _<_, _%_};
 ghost use mathlib.Core.Path.{_≡_};
 ghost use lib.ListN.{length};
-ghost use Rattle.vectors.specs.Frame.{little, headOf, adler32};
+ghost use Rattle.vectors.specs.Frame.{little, caseHead, adler32};
 
 // What stands before a case's rules, rows and order.
 pub struct Head {
@@ -62,7 +62,7 @@ pub fn checksum(bytes: &[u8]) -> usize
 // Takes the numbers of a head from its 34 bytes.
 pub fn head_of(bytes: &[u8]) -> Head
     requires { ⌜ 34 ≤ length (now bytes) ⌝ }
-    ensures { λ r. ⌜ r ≡ headOf (now (bytes .entry)) ⌝ }
+    ensures { λ r. ⌜ r ≡ caseHead (now (bytes .entry)) ⌝ }
 {
     Head {
         call: bytes[0],

@@ -41,12 +41,12 @@ open-rule-requires : tie.Need-open-rule-requires Inv-loop μ-loop
 open-rule-requires c κs = let s = c .before .before .before .before .args .rules .now in let i = c .before .before .loop .i in
     ap length (record-part i s) ∙ length-row 64 i s (record-fits i (length s) (c .before .loop-test .taken))
 
-enum-known-outcome : tie.Need-enum-known-outcome Inv-loop μ-loop
-enum-known-outcome c = search needs
+enum-known-admission : tie.Need-enum-known-admission Inv-loop μ-loop
+enum-known-admission c = search needs
 
 returns : tie.Need-returns Inv-loop μ-loop
 returns c = let a = c .before .before .before .before .before .before .before .before .args in let l = c .before .before .before .before .before .before .loop in let s = a .rules .now in
-    set-stops (a .kinds) s (l .i) (length s / 64) (c .before .before .before .before .before .loop-test .taken) (c .before .before .before .open-rule .result) (c .before .before .before .open-rule .ensures ∙ ap (opened-rule (a .kinds)) (record-part (l .i) s)) (c .before .outcome .given .0 .0) (c .before .outcome .given .1) ∙ sym (l .inv .1)
+    set-stops (a .kinds) s (l .i) (length s / 64) (c .before .before .before .before .before .loop-test .taken) (c .before .before .before .open-rule .result) (c .before .before .before .open-rule .ensures ∙ ap (opened-rule (a .kinds)) (record-part (l .i) s)) (c .before .admission .given .0 .0) (c .before .admission .given .1) ∙ sym (l .inv .1)
 
 enum-told : tie.Need-enum-told Inv-loop μ-loop
 enum-told c = search needs
@@ -78,7 +78,7 @@ check-rules-spec =
     part-open-rule-start
     part-open-rule-end
     open-rule-requires
-    enum-known-outcome
+    enum-known-admission
     returns
     enum-told
     add-i

@@ -1,7 +1,7 @@
 -- `vectors::frame::head_of` meets its contract: each number is that of its bytes.
 use borrow.Author.Needs.{needs}
 use lib.ListN.{getD}
-use Rattle.vectors.specs.Frame.{headOf}
+use Rattle.vectors.specs.Frame.{caseHead}
 use Rattle.vectors.proofs.frame.head_of.Statement.{statement}
 use Rattle.vectors.proofs.frame.head_of.Tie as tie
 
@@ -73,7 +73,7 @@ shared-slice-read-t30 c = search needs
 
 -- antt refused `returns` as it was built: the module's report says why
 returns : tie.Need-returns
-unfolding headOf
+unfolding caseHead
 returns c =
     let n5 = c .before in
     let n4 = n5 .before .before in
