@@ -61,14 +61,14 @@ second-checks: second-program
 	mkdir -p build/sets && $(SECOND) bench-sets build/sets && diff -r build/sets bench/sets
 
 # Fresh cases on the program that the proofs built: make fresh-cases SEED=n COUNT=n repeats a run.
-fresh-cases:
+fresh-cases: second-program target/bin/vectors
 	$(SECOND) cases random $(SEED) $(COUNT) >build/cases
 	$(SECOND) answers <build/cases >build/expected
 	$(EMULATED) target/bin/vectors <build/cases >build/answered
 	cmp build/answered build/expected
 
 # The listing program on each example and each set of the benchmark, against the second program's listing.
-listings:
+listings: second-program target/bin/listing
 	for file in examples/*.rules $(SETS); do $(EMULATED) target/bin/listing <$$file | cmp - <($(SECOND) listing <$$file); done
 
 $(ARCHIVE): $(CRATE_FILES)
