@@ -8,7 +8,7 @@ use native.Mathlib.Numerals.{add-one}
 use native.Mathlib.Omega.{arith}
 use lib.Dec.{ltb, leb, eqb}
 use lib.ListN.{length, getD, set, take, replicate, length-append, length-set}
-use lib.Seq.{take-suc, length-take-le, getD-set-same, getD-set-other}
+use lib.Seq.{take-suc, getD-set-same, getD-set-other}
 use borrow.Author.Tests.{le-leb, leb-true, ltb-true, eqb-true, eqb-false}
 use Rattle.tokens.specs.Sets.{empty, plus, cut, over}
 use Rattle.tokens.specs.Tables.{every, blank-from, Wide, none, more}
@@ -70,6 +70,28 @@ unfolding set-of
 set-of-one k =
     same-at (plus (one k) empty) (one k) (length-plus 32 (one k) empty (length-one k) length-empty ∙ sym (length-one k))
     (λ j. omega (arith, plus-at (one k) empty j, empty-at j))
+
+-- one more of kind k
+added : (r : List ℕ) (k : ℕ) → length r ≡ 32 → k < 32 → set r k (getD r k 0 + 1) ≡ plus r (one k)
+added r k h l =
+    same-at (set r k (getD r k 0 + 1)) (plus r (one k)) (length-set r k (getD r k 0 + 1) ∙ h ∙ sym (length-plus 32 r (one k) h (length-one k)))
+    (λ j. go j (eqb k j) refl ∙ sym (plus-at r (one k) j))
+  where
+    go : (j : ℕ) (t : Bool) → eqb k j ≡ t → getD (set r k (getD r k 0 + 1)) j 0 ≡ getD r j 0 + getD (one k) j 0
+    go j true e =
+        let q : k ≡ j = eqb-true k j e in
+        ap (λ (i : ℕ). getD (set r k (getD r k 0 + 1)) i 0) (sym q) ∙ getD-set-same r k (getD r k 0 + 1) 0 (rw h l)
+        ∙ ap₂ _+_ (ap (λ (i : ℕ). getD r i 0) q) (sym (one-at k j l ∙ ap one-if e))
+    go j false e = getD-set-other r k j (getD r k 0 + 1) 0 (λ q. eqb-false k j e (sym q)) ∙ omega (arith, one-at k j l ∙ ap one-if e)
+
+-- the set of one kind more of a list
+pub set-of-more : (s : List ℕ) (i : ℕ) → i < length s → getD s i 0 < 32
+    → set (set-of (take i s)) (getD s i 0) (getD (set-of (take i s)) (getD s i 0) 0 + 1) ≡ set-of (take (i + 1) s)
+set-of-more s i h l =
+    let k : ℕ = getD s i 0 in
+    let e : take (i + 1) s ≡ take i s ++ (k ∷ []) = ap (λ (j : ℕ). take j s) (add-one i) ∙ take-suc s i 0 h in
+    added (set-of (take i s)) k (length-set-of (take i s)) l
+    ∙ sym (set-of-append (take i s) (k ∷ []) ∙ ap (plus (set-of (take i s))) (set-of-one k)) ∙ ap set-of (sym e)
 
 -- the fact of a set is the fact of its list of kinds
 pub set-of-fact : (n : ℕ) (b : List ℕ) → every (is-kind n) b ≡ true → (k : ℕ) → getD (set-of b) k 0 ≡ occ b k
@@ -261,17 +283,6 @@ map-short : (L : List (List ℕ)) → every (no-longer 255) L ≡ true → map c
 unfolding every
 map-short [] e = refl
 map-short (b ∷ L) e = ap₂ _∷_ (capped-short b (and-l (no-longer 255 b) _ e)) (map-short L (and-r (no-longer 255 b) _ e))
-
--- a set with the next kind of a list added
-pub set-of-more : (s : List ℕ) (i : ℕ) → i < length s → i < 255 → capped (set-of (take i s)) (one (getD s i 0)) ≡ set-of (take (i + 1) s)
-unfolding capped-set
-set-of-more s i h k =
-    let l : List ℕ = take i s ++ (getD s i 0 ∷ []) in
-    let e : take (i + 1) s ≡ l = ap (λ (j : ℕ). take j s) (add-one i) ∙ take-suc s i 0 h in
-    let n : length l ≡ i + 1 = length-append (take i s) (getD s i 0 ∷ []) ∙ ap (λ (j : ℕ). j + 1) (length-take-le i s (omega arith)) in
-    ap (cut 255) (sym (set-of-append (take i s) (getD s i 0 ∷ []) ∙ ap (plus (set-of (take i s))) (set-of-one (getD s i 0))))
-    ∙ capped-short l (le-leb (length l) 255 (omega arith))
-    ∙ ap set-of (sym e)
 
 -- no sum of a goal of at most 255 bytes is cut
 pub branch-capped : (G : Goal) → length (print G) ≤ 255 → opened one capped G ≡ branch-rows G

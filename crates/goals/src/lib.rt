@@ -424,6 +424,14 @@ fn open_body(body: &[u8], kinds: usize) -> Opened
     bad()
 }
 
+// A count with one more: a kind that stands there again counts again.
+fn one_more(x: u8) -> u8
+    requires { ⌜ x < 255 ⌝ }
+    ensures { λ r. ⌜ r ≡ x + 1 ⌝ }
+{
+    x + 1
+}
+
 // The first k bytes of a head as a set: how often each kind stands there.
 fn tally(s: &[u8], k: usize) -> [u8; 32]
     requires { ⌜ (k ≤ length (now s)) × ((k ≤ 255) × ((i : ℕ) → i < k → getD (now s) i 0 < 32)) ⌝ }
@@ -432,8 +440,8 @@ fn tally(s: &[u8], k: usize) -> [u8; 32]
     let mut set = [0u8; 32];
     let mut i = 0;
     while i < k {
-        let more = sum_cut(set, single(s[i] as usize));
-        set = more;
+        let kind = s[i] as usize;
+        set[kind] = one_more(set[kind]);
         i += 1;
     }
     set

@@ -1,0 +1,13 @@
+-- `goals::one_more` meets its contract.
+use borrow.Author.Needs.{needs}
+use Rattle.goals.proofs.one_more.Statement.{statement}
+use Rattle.goals.proofs.one_more.Tie as tie
+
+add-result : tie.Need-add-result
+add-result c = search needs
+
+returns : tie.Need-returns
+returns c = search needs
+
+pub one-more-spec : {M : Type 1} → statement M
+one-more-spec = tie.close (tie.spec add-result returns)
