@@ -796,38 +796,40 @@ const RECORD_FAULTS: [Fault; 6] = [
     ("branches of record 1", |c| many_branches(c, 1)),
 ];
 
+/// The faults of the lent areas and of the rules' length.
+const LENT_FAULTS: [Fault; 4] = [
+    ("table short", |c| c.table -= 1),
+    ("work short", |c| c.work -= 1),
+    ("rules long", |c| c.rules.resize(4_160, 255)),
+    ("rules uneven", |c| c.rules.push(255)),
+];
+
 /// Adds cases with two faults, which tell the order of the checks.
 fn two_faults(list: &mut List) {
-    let close: [Fault; 9] = [
+    let settings: [Fault; 4] = [
         ("kinds 0", |c| c.settings.kinds = 0),
         ("capacity 0", |c| c.settings.capacity = 0),
         ("rounds 0", |c| c.settings.rounds = 0),
         ("rounds 10001", |c| c.settings.rounds = 10_001),
-        ("table short", |c| c.table -= 1),
-        ("work short", |c| c.work -= 1),
-        ("rules long", |c| c.rules.resize(4_160, 255)),
-        ("rules uneven", |c| c.rules.push(255)),
-        ("rows uneven, not looked at", |c| c.rows = vec![9; 33]),
     ];
+    let unread: [Fault; 1] = [("rows uneven, not looked at", |c| c.rows = vec![9; 33])];
     let late: [Fault; 3] = [
         ("then 7", |c| c.rules.extend(letters(HIGH_LADDER))),
         ("then 8", |c| c.rules.extend(letters("a + b <- T; b + c <- T; c + d <- T; d + e <- T; e + f <- T"))),
         ("then 9", |c| c.rules.extend(letters("2*c <- T; 2*d <- c; 2*e <- d; 2*f <- e; f <- f + f"))),
     ];
     let mut case = closing_at("a <- b; b <- a", 20, 4);
-    let faults = [&close[..], &RECORD_FAULTS, &late].concat();
+    let faults = [&settings[..], &LENT_FAULTS, &unread, &RECORD_FAULTS, &late].concat();
     list.pairs("closing", &case, &faults);
     case.settings.capacity = 4;
     lend(&mut case);
     list.pairs("closing at 4", &case, &late);
-    let round: [Fault; 12] = [
+    let settings: [Fault; 3] = [
         ("kinds 33", |c| c.settings.kinds = 33),
         ("capacity 257", |c| c.settings.capacity = 257),
         ("rounds 0, not looked at", |c| c.settings.rounds = 0),
-        ("table short", |c| c.table -= 1),
-        ("work short", |c| c.work -= 1),
-        ("rules long", |c| c.rules.resize(4_160, 255)),
-        ("rules uneven", |c| c.rules.push(255)),
+    ];
+    let given: [Fault; 5] = [
         ("rows long", |c| c.rows.resize(8_224, 0)),
         ("rows uneven", |c| c.rows.push(0)),
         ("rows over capacity", |c| c.rows = slope(21)),
@@ -839,7 +841,7 @@ fn two_faults(list: &mut List) {
         ("then 8", |c| c.rules.extend(letters("2*c <- T; 2*d <- T; 2*e <- T; b + c <- T"))),
     ];
     let mut case = rounding_at("a <- b; b <- a", rows(&[&[(4, 1), (5, 250)], &[(2, 1), (3, 1)]]), 20);
-    let faults = [&round[..], &RECORD_FAULTS, &late].concat();
+    let faults = [&settings[..], &LENT_FAULTS, &given, &RECORD_FAULTS, &late].concat();
     list.pairs("one round", &case, &faults);
     case.settings.capacity = 3;
     lend(&mut case);

@@ -155,15 +155,15 @@ pub fn answer_line(case: &Case) -> String {
     }
 }
 
-/// Gives the lines that a run of frames is answered with; a bad frame ends them.
-pub fn answer_lines(frames: &[u8]) -> String {
+/// Gives what is said of each case in a run of frames, a line each; a bad frame ends them.
+pub fn lines(frames: &[u8], say: impl Fn(&Case) -> String) -> String {
     let mut lines = String::new();
     let mut rest = frames;
     while !rest.is_empty() {
         let Some(case) = read_frame(&mut rest) else {
             return lines + "bad frame\n";
         };
-        lines += &answer_line(&case);
+        lines += &say(&case);
         lines.push('\n');
     }
     lines
@@ -218,7 +218,7 @@ mod tests {
         assert_eq!(read_frame(&mut rest), Some(case));
         assert!(rest.is_empty());
         assert_eq!(read_frame(&mut &frame[..frame.len() - 1]), None);
-        let broken = answer_lines(&frame[..frame.len() - 1]);
+        let broken = lines(&frame[..frame.len() - 1], answer_line);
         assert_eq!(broken, "bad frame\n");
     }
 }

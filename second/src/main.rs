@@ -3,7 +3,7 @@
 use second::benchsets::bench_sets;
 use second::cases::random_case;
 use second::fixed::fixed;
-use second::frames::{answer_lines, read_frame, show, write_frame};
+use second::frames::{answer_line, lines, show, write_frame};
 use second::listing::listing;
 use second::random::Random;
 use second::selfcheck::selfcheck;
@@ -53,20 +53,6 @@ fn random_frames(seed: &str, count: &str) -> Result<Vec<u8>, String> {
     Ok(frames)
 }
 
-/// Gives a readable line for each frame.
-fn shown(frames: &[u8]) -> String {
-    let mut rest = frames;
-    let mut lines = String::new();
-    while !rest.is_empty() {
-        let Some(case) = read_frame(&mut rest) else {
-            return lines + "bad frame\n";
-        };
-        lines += &show(&case);
-        lines.push('\n');
-    }
-    lines
-}
-
 /// Gives the names of the fixed cases with their numbers from 1.
 fn names() -> String {
     fixed().iter().zip(1..).map(|((name, _), place)| format!("{place} {name}\n")).collect()
@@ -95,8 +81,8 @@ fn run(words: &[&str]) -> Result<Vec<u8>, String> {
         ["cases", seed, count] => Ok([fixed_frames(), random_frames(seed, count)?].concat()),
         ["names"] => Ok(names().into()),
         ["bench-sets", folder] => write_bench_sets(folder),
-        ["answers"] => Ok(answer_lines(&input()?).into()),
-        ["show"] => Ok(shown(&input()?).into()),
+        ["answers"] => Ok(lines(&input()?, answer_line).into()),
+        ["show"] => Ok(lines(&input()?, show).into()),
         ["listing"] => Ok(listing(&input()?).into()),
         ["spell"] => {
             let text = String::from_utf8(input()?).map_err(|_| "the text is not UTF-8")?;
