@@ -1,7 +1,6 @@
 -- What callers learn: of a rule record that is read, of a rule set that passes, of an order that is read, and of their answers.
 use mathlib.Core.Path.{_≡_, refl, sym, ap, ap₂, subst, _∙_}
-use mathlib.Core.Logic.{_⊎_, inl, inr}
-use mathlib.Core.List.{List·Memᴰ·not-nil, List·Memᴰ·cases-cons, List, [], _∷_, map}
+use mathlib.Core.List.{List, [], _∷_, map}
 use mathlib.Core.Bool.{Bool, true, not, cond}
 use Prim.Native.Nat.{ℕ, zero, suc, _+_, _*_, _/_, _≤_, _<_}
 use native.Mathlib.Nat.{one-mul}
@@ -12,10 +11,10 @@ use Rattle.tokens.specs.Sets.{empty, over}
 use Rattle.tokens.specs.Tables.{every, blank-from}
 use Rattle.tokens.specs.Rows.{row, rows}
 use Rattle.tokens.proofs.BlankLaws.{at-blank}
+use Rattle.tokens.proofs.TableLaws.{every-map}
 use Rattle.tokens.proofs.RowLaws.{length-rows, rows-at}
-use Rattle.logic.specs.Goals.{Goal, Clause, _∈_}
+use Rattle.logic.specs.Goals.{Goal, Clause}
 use Rattle.logic.specs.Branches.{openedAll, ways, branches, branchesC}
-use Rattle.logic.proofs.FewKinds.{HeadsBelow}
 use Rattle.logic.proofs.BranchLaws.{length-sums, length-opened}
 use Rattle.goals.specs.declared.Admission.{Admission}
 use Rattle.goals.specs.declared.Admission.the-variants.{Fine, Refused}
@@ -30,7 +29,7 @@ use Rattle.goals.proofs.Readings.{not-refused, same-read, granted, step
 use Rattle.goals.proofs.PrintLaws.{Printed, body-printed, printed-body, Headed, head-printed, printed-head, Ordered, order-printed}
 use Rattle.goals.proofs.ParseLaws.{print-odd}
 use Rattle.goals.proofs.LimitLaws.{within-few, ways-all, runs-few}
-use Rattle.goals.proofs.RowLaws.{set-of-fact, set-of-from, every-map, branch-rows-are, order-rows-are, branch-low, order-low}
+use Rattle.goals.proofs.RowLaws.{set-of-from, branch-rows-are, order-rows-are, branch-low, order-low}
 use Rattle.goals.proofs.ListLaws.{counts}
 
 -- ---- a rule record
@@ -152,30 +151,6 @@ program-read n s P e =
       many = sym (m .0) ∙ l;
       each = λ i h d. ap (rule n) (sym (rows-at 64 (length s / 64) i s h)) ∙ m .1 i (rw l h) d;
     }
-
-from-maps : (n : ℕ) (rs : List (List ℕ)) (P : List Clause) → map (rule n) rs ≡ map read P → (C : Clause) → C ∈ P → (r : List ℕ) × (rule n r ≡ read C)
-from-maps n [] [] e C m = absurd (List·Memᴰ·not-nil m)
-from-maps n [] (D ∷ P) e C m = absurd (let z : _≡_ {A = ℕ} 0 1 = cc in let w : ⊥ = omega arith in w)
-from-maps n (r ∷ rs) [] e C m = absurd (List·Memᴰ·not-nil m)
-from-maps n (r ∷ rs) (D ∷ P) e C m = go (from-maps n rs P (cc) C) (cc) (List·Memᴰ·cases-cons m)
-  where
-    go : (C ∈ P → (r : List ℕ) × (rule n r ≡ read C)) → rule n r ≡ read D → (C ≡ D) ⊎ (C ∈ P) → (r : List ℕ) × (rule n r ≡ read C)
-    go f h (inl q) = (r, h ∙ ap read (sym q))
-    go f h (inr k) = f k
-
-module _ (n : ℕ) (s : List ℕ) (P : List Clause) (e : program n s ≡ clauses P) where
-  -- each clause is read from a record
-  pub clause-read : (C : Clause) → C ∈ P → (r : List ℕ) × Ruled n r C
-  unfolding program
-  clause-read C m =
-      let r = from-maps n (rows 64 (length s / 64) s) P (records-read n 0 (rows 64 (length s / 64) s) P e) C m in
-      (r .0, rule-printed n (r .0) C (r .1))
-
-  -- no head has a kind from n on
-  pub program-below : HeadsBelow n P
-  program-below C m k h =
-      let c = clause-read C m .1 .heading .kinds in
-      sym (set-of-fact n (C .head) c k) ∙ set-of-from n (C .head) c k h
 
 -- a rule set that is refused: record i is, and every record before it is read
 pub record First (n : ℕ) (rs : List (List ℕ)) (k m : ℕ) : Type 0 where

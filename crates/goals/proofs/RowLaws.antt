@@ -14,7 +14,7 @@ use Rattle.tokens.specs.Sets.{empty, plus, cut, over}
 use Rattle.tokens.specs.Tables.{every, blank-from, Wide, none, more}
 use Rattle.tokens.proofs.Tests.{both, and-l, and-r}
 use Rattle.tokens.proofs.SetLaws.{same-at, plus-at, zeros-at, empty-at, length-empty, length-plus, plus-assoc, cut-at, length-cut, at-over, cut-same}
-use Rattle.tokens.proofs.TableLaws.{every-imp}
+use Rattle.tokens.proofs.TableLaws.{every-imp, every-map}
 use Rattle.tokens.proofs.BlankLaws.{at-blank}
 use Rattle.tokens.proofs.FormLaws.{every-append}
 use Rattle.logic.specs.Facts.{occ, one-if}
@@ -131,11 +131,6 @@ unfolding order-rows set-of
 order-rows-are Δ = sym (openedAll-map set-of _++_ plus set-of-append (λ k. k ∷ []) one set-of-one [] empty refl Δ)
 
 -- ---- what holds of every branch
-
-pub every-map : {A B : Type 0} (p : B → Bool) (f : A → B) (l : List A) → every p (map f l) ≡ every (λ a. p (f a)) l
-unfolding every
-every-map p f [] = refl
-every-map p f (x ∷ l) = ap (λ t. p (f x) && t) (every-map p f l)
 
 every-both : {A : Type 0} (p : A → Bool) (l m : List A) → every p l ≡ true → every p m ≡ true → every p (l ++ m) ≡ true
 every-both p l m e d = every-append p l m ∙ both (every p l) (every p m) e d

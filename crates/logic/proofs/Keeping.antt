@@ -1,34 +1,14 @@
 -- Rounds that keep their table are the powers of S_P, up to ≃.
 use mathlib.Core.List.{List}
-use mathlib.Core.Logic.{_⊎_, inl, inr, ⊎-elim, _↔_}
 use Prim.Native.Nat.{ℕ, zero, suc}
-use Rattle.logic.specs.Facts.{Fact}
 use Rattle.logic.specs.Goals.{Clause}
 use Rattle.logic.specs.Satisfaction.{Interp}
 use Rattle.logic.specs.Operator.{S, S↑}
-use Rattle.logic.specs.Order.{Covers, _⊑_, _≃_, _∪_}
+use Rattle.logic.specs.Order.{_⊑_, _≃_, _∪_}
 use Rattle.logic.specs.Rounds.{After, start, round}
-use Rattle.logic.proofs.OrderLaws.{⊑-refl, ⊑-trans, ≃-iff, ∪-least, ∪-right, ∪-covers}
+use Rattle.logic.proofs.OrderLaws.{⊑-refl, ⊑-trans, ∪-least, ∪-right}
 use Rattle.logic.proofs.Satisfied.{S-mono}
-use Rattle.logic.proofs.Step.{Step, step-iff}
 use Rattle.logic.proofs.Powers.{power-up}
-
--- what one round covers: what its table covers, and what some rule can make a step from
-pub round-iff : (P : List Clause) (T U : Interp) → (U ≃ T ∪ S P T) ↔ ((X : Fact) → Covers U X ↔ (Covers T X ⊎ Step P T X))
-round-iff P T U = (
-  λ e X.
-      let r = ≃-iff U (T ∪ S P T) .0 e X in
-      let u = ∪-covers T (S P T) X in (
-        λ c. ⊎-elim inl (λ s. inr (step-iff P T X .0 s)) (u .0 (r .0 c)),
-        λ s. r .1 (u .1 (⊎-elim inl (λ t. inr (step-iff P T X .1 t)) s)),
-      ),
-  λ f.
-      ≃-iff U (T ∪ S P T) .1 (λ X.
-      let u = ∪-covers T (S P T) X in (
-        λ c. u .1 (⊎-elim inl (λ t. inr (step-iff P T X .1 t)) (f X .0 c)),
-        λ c. f X .1 (⊎-elim inl (λ s. inr (step-iff P T X .0 s)) (u .0 c)),
-      )),
-)
 
 -- k rounds give S_P↑k, up to facts that include others
 pub after-iter : {P : List Clause} {k : ℕ} {T : Interp} → After P k T → T ≃ S↑ P k

@@ -28,14 +28,8 @@ pub ⊑-trans : {I J K : Interp} → I ⊑ J → J ⊑ K → I ⊑ K
 
 -- ---- ≃
 
-pub ≃-refl : (I : Interp) → I ≃ I
-≃-refl I = (⊑-refl I, ⊑-refl I)
-
 pub ≃-sym : {I J : Interp} → I ≃ J → J ≃ I
 ≃-sym e = (e .1, e .0)
-
-pub ≃-trans : {I J K : Interp} → I ≃ J → J ≃ K → I ≃ K
-≃-trans e f = (⊑-trans (e .0) (f .0), ⊑-trans (f .1) (e .1))
 
 -- I ≃ J if and only if ⟦I⟧ = ⟦J⟧ (001, Definition 5.1)
 pub ≃-iff : (I J : Interp) → (I ≃ J) ↔ ((X : Fact) → Covers I X ↔ Covers J X)
