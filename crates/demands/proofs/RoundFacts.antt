@@ -154,7 +154,7 @@ module _ (n : ℕ) (P : List Clause) (known : (c : Clause) → c ∈ P → Spelt
     -- k unrefused rounds are k rounds of S_P from the empty interpretation
     pub rounds_after : (k : ℕ) (t : List (List ℕ)) → rounds limits (map opening P) k ≡ going t → After P k (Listed fact t)
     unfolding rounds
-    rounds_after zero t e = start {T = Listed fact t} (λ B b. absurd (Memᴰ.not_nil (subst (λ (l : List (List ℕ)). b.0 ∈ l) (sym (going_is e)) b.1)))
+    rounds_after zero t e = start {T = Listed fact t} (λ B b. absurd (Memᴰ.not-nil (subst (λ (l : List (List ℕ)). b.0 ∈ l) (sym (going_is e)) b.1)))
     rounds_after (suc k) t e =
         let b = rounds_back limits (map opening P) k t e in
         subst (λ (l : List (List ℕ)). After P (suc k) (Listed fact l)) b.2.2

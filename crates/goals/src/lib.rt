@@ -1,4 +1,6 @@
-// Reading rule records and orders (01, "Rule records" and "Branches"): from bytes to heads as sets and branches as rows.
+//! Reading rule records and orders (01, "Rule records" and "Branches"): from bytes to heads as sets and branches as rows.
+#![tactic(auto)]
+
 ghost use Rattle.std.specs.Prelude.{◌≡◌, [], ◌∷◌, ◌++◌, map, ℕ, ◌+◌, ◌*◌, ◌≤◌, ◌<◌, length, get_or, take, drop};
 ghost use Rattle.tokens.specs.Sets.{empty};
 ghost use Rattle.logic.specs.Branches.{sums};

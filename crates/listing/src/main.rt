@@ -1,4 +1,6 @@
-// Reads rule records, closes them and writes the listing of the table.
+//! Reads rule records, closes them and writes the listing of the table.
+#![tactic(auto)]
+
 ghost use Rattle.std.specs.Prelude.{◌≤◌, length};
 ghost use Rattle.io.specs.Counts.{IsPrefixLen};
 ghost use Rattle.listing.specs.Prints.{Lists};

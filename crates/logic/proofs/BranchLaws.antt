@@ -119,7 +119,7 @@ module _ {A : Type 0} (plus : A → A → A) where
 
   pub sums_cases : {x : A} (L R : List A) → x ∈ sums plus L R → (a : A) × (b : A) × (a ∈ L) × (b ∈ R) × (x ≡ plus a b)
   unfolding sums
-  sums_cases [] R m = absurd (Memᴰ.not_nil m)
+  sums_cases [] R m = absurd (Memᴰ.not-nil m)
   sums_cases {x} (y ∷ L) R m = go (λ (n : x ∈ sums plus L R). sums_cases L R n) (Memᴰ.append_cases (map (plus y) R) m)
     where
       go : (x ∈ sums plus L R → (a : A) × (b : A) × (a ∈ L) × (b ∈ R) × (x ≡ plus a b)) → (x ∈ map (plus y) R) ⊎ (x ∈ sums plus L R)

@@ -53,7 +53,7 @@ atoms_branch A = subst (λ (l : List (List ℕ)). A ∈ l) (sym (branches_atoms 
 
 pub branch_top : (Δ : List Goal) {b : List ℕ} → b ∈ branches_c (⊤ ∷ Δ) → ⊥
 unfolding opened_all opened sums
-branch_top Δ m = Memᴰ.not_nil m
+branch_top Δ m = Memᴰ.not-nil m
 
 pub branch_par : (G H : Goal) (Δ : List Goal) {b : List ℕ} → b ∈ branches_c (G ⅋ H ∷ Δ) → b ∈ branches_c (G ∷ H ∷ Δ)
 unfolding opened_all opened

@@ -35,7 +35,7 @@ or_iff false b = (λ h. inr h, λ h. ⊎_elim (λ x. absurd x) (λ y. y) h)
 
 pub each_iff : {A : Type 0} (p : A → Bool) (l : List A) → T (each p l) ↔ ((a : A) → a ∈ l → T (p a))
 unfolding each
-each_iff p [] = (λ h a m. absurd (Memᴰ.not_nil m), λ f. tt)
+each_iff p [] = (λ h a m. absurd (Memᴰ.not-nil m), λ f. tt)
 each_iff p (x ∷ l) = (
   λ h a m.
       let b = (and_iff (p x) (each p l)).0 h in
@@ -45,7 +45,7 @@ each_iff p (x ∷ l) = (
 
 pub some_iff : {A : Type 0} (p : A → Bool) (l : List A) → T (some p l) ↔ ((a : A) × (a ∈ l) × T (p a))
 unfolding some
-some_iff p [] = (λ h. absurd h, λ r. absurd (Memᴰ.not_nil r.1))
+some_iff p [] = (λ h. absurd h, λ r. absurd (Memᴰ.not-nil r.1))
 some_iff p (x ∷ l) = (
   λ h.
       ⊎_elim (λ y. (x, Memᴰ.head refl, y)) (λ y. let r = (some_iff p l).0 y in (r.0, Memᴰ.tail r.1, r.2))

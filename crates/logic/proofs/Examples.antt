@@ -132,7 +132,7 @@ c_e_row = Memᴰ.tail (Memᴰ.tail (Memᴰ.tail (Memᴰ.tail (Memᴰ.head refl))
 -- every clause but the second has one of the five for its head
 heads : (k : Clause) → k ∈ P → (k.head ∈ five) ⊎ (k ≡ second)
 heads k m = ⊎_elim (headed just_a) (λ n. ⊎_elim inr (λ n. ⊎_elim (headed c_d) (λ n. ⊎_elim (headed c_e_row)
-    (λ n. ⊎_elim (headed c_f) (λ n. absurd (Memᴰ.not_nil n)) (Memᴰ.cases_cons n))
+    (λ n. ⊎_elim (headed c_f) (λ n. absurd (Memᴰ.not-nil n)) (Memᴰ.cases_cons n))
     (Memᴰ.cases_cons n)) (Memᴰ.cases_cons n)) (Memᴰ.cases_cons n)) (Memᴰ.cases_cons m)
   where
     headed : {q : Clause} → q.head ∈ five → k ≡ q → (k.head ∈ five) ⊎ (k ≡ second)

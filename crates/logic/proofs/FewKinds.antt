@@ -48,7 +48,7 @@ occ_below (a ∷ A) = let r = occ_below A in (suc a + r.0, λ k h. go k (eqb a k
     go k false e l z = omega (arith, ap one_if e, z)
 
 pub heads_below : (P : List Clause) → (n : ℕ) × HeadsBelow n P
-heads_below [] = (0, λ c m. absurd (Memᴰ.not_nil m))
+heads_below [] = (0, λ c m. absurd (Memᴰ.not-nil m))
 heads_below (d ∷ P) =
     let r = occ_below d.head in
     let s = heads_below P in (

@@ -50,7 +50,7 @@ unfolding total tops
 top_on_each_side (top_r e) = omega (arith, total_∼ tops e)
 top_on_each_side (par_r e p) = omega (arith, total_∼ tops e, top_on_each_side p)
 top_on_each_side (with_r e p q) = omega (arith, total_∼ tops e, top_on_each_side p, top_on_each_side q)
-top_on_each_side (bc A m e p) = absurd (Memᴰ.not_nil m)
+top_on_each_side (bc A m e p) = absurd (Memᴰ.not-nil m)
 
 -- ---- bc: "can be executed only if the right-hand side of the current LO sequent consists of atomic formulas" (001, section 3)
 

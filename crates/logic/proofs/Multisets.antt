@@ -46,7 +46,7 @@ mem_map f (Memᴰ.head e) = Memᴰ.head (ap f e)
 mem_map f (Memᴰ.tail m) = Memᴰ.tail (mem_map f m)
 
 pub mem_map_cases : {A B : Type 0} (f : A → B) {b : B} (l : List A) → b ∈ map f l → (a : A) × (a ∈ l) × (b ≡ f a)
-mem_map_cases f [] m = absurd (Memᴰ.not_nil m)
+mem_map_cases f [] m = absurd (Memᴰ.not-nil m)
 mem_map_cases {A} {B} f {b} (x ∷ l) m = go (λ (n : b ∈ map f l). mem_map_cases f l n) (Memᴰ.cases_cons m)
   where
     go : (b ∈ map f l → (a : A) × (a ∈ l) × (b ≡ f a)) → (b ≡ f x) ⊎ (b ∈ map f l) → (a : A) × (a ∈ x ∷ l) × (b ≡ f a)

@@ -1,4 +1,6 @@
-// The three calls for C and Rust: a slice arrives as a pointer and a length, an answer leaves by numbers.
+//! The three calls for C and Rust: a slice arrives as a pointer and a length, an answer leaves by numbers.
+#![tactic(auto)]
+
 ghost use Rattle.std.specs.Prelude.{◌≡◌};
 ghost use Rattle.table.specs.Answers.{number};
 ghost use Rattle.ludwavyn.specs.Codes.{flag, ToldClosing, ToldRounded, ToldAnswer, CloseTold, RoundTold, AskTold};

@@ -1,4 +1,6 @@
-// The listing program's text, written into a buffer that the caller lends.
+//! The listing program's text, written into a buffer that the caller lends.
+#![tactic(auto)]
+
 ghost use Rattle.std.specs.Prelude.{◌+◌, ◌*◌, ◌≤◌, ◌≡◌, true, ◌∷◌, [], length};
 ghost use Rattle.table.specs.Answers.{number, returned};
 ghost use Rattle.report.specs.Buffer.{Written};

@@ -1,4 +1,6 @@
-// Runs framed cases of the three calls: reads them from standard input and writes one line for each.
+//! Runs framed cases of the three calls: reads them from standard input and writes one line for each.
+#![tactic(auto)]
+
 mod frame;
 mod lines;
 
