@@ -14,21 +14,21 @@ ghost use Rattle.goals.specs.Views.{step_at, capped, view_of, view, View, View.b
 use tokens::{read_row, sum_cut, write_row};
 
 // A list of at most 16 token sets: the first `count` rows of 32 counts. What stands past them is left open.
-#[derive(Drop)]
+#[derive(Clone, Copy)]
 pub struct Branches {
     pub count: usize,
     pub sets: [u8; 512],
 }
 
 // The two operators between goals: ⅋ ("together") and & ("both ways").
-#[derive(Drop)]
+#[derive(Clone, Copy)]
 enum Op {
     Together,
     Both,
 }
 
 // What a byte of a goal says.
-#[derive(Drop)]
+#[derive(Clone, Copy)]
 enum Code {
     Kind(usize),
     Done,
@@ -37,20 +37,20 @@ enum Code {
 }
 
 // A place in a slice of codes.
-#[derive(Drop)]
+#[derive(Clone, Copy)]
 struct Cursor {
     at: usize,
 }
 
 // The code at a cursor, and the cursor moved past it.
-#[derive(Drop)]
+#[derive(Clone, Copy)]
 struct Step {
     code: Code,
     next: Cursor,
 }
 
 // Whether what was read is well written, and opens into 16 branches at most.
-#[derive(Drop)]
+#[derive(Clone, Copy)]
 enum Verdict {
     Fine,
     Over,
@@ -58,7 +58,7 @@ enum Verdict {
 }
 
 // What reading a goal gives: the list counts where the verdict is Fine, the cursor where it is not Bad.
-#[derive(Drop)]
+#[derive(Clone, Copy)]
 struct Opened {
     verdict: Verdict,
     next: Cursor,
@@ -66,14 +66,14 @@ struct Opened {
 }
 
 // A head as a set, which counts where it is well written.
-#[derive(Drop)]
+#[derive(Clone, Copy)]
 struct HeadSet {
     good: bool,
     set: [u8; 32],
 }
 
 // What a rule or an order is refused for: 4, 5, 6 and 10 of 01.
-#[derive(Drop)]
+#[derive(Clone, Copy)]
 pub enum Fault {
     Head,
     Body,
@@ -82,14 +82,14 @@ pub enum Fault {
 }
 
 // Whether a rule or an order is refused, and for what.
-#[derive(Drop)]
+#[derive(Clone, Copy)]
 pub enum Admission {
     Fine,
     Refused(Fault),
 }
 
 // A rule record, opened: head and branches count where the admission is Fine.
-#[derive(Drop)]
+#[derive(Clone, Copy)]
 pub struct OpenedRule {
     pub admission: Admission,
     pub head: [u8; 32],
@@ -97,14 +97,14 @@ pub struct OpenedRule {
 }
 
 // An order, opened: the branches count where the admission is Fine.
-#[derive(Drop)]
+#[derive(Clone, Copy)]
 pub struct OpenedOrder {
     pub admission: Admission,
     pub list: Branches,
 }
 
 // Whether a rule set is refused: the first refusal and its record's number.
-#[derive(Drop)]
+#[derive(Clone, Copy)]
 pub enum Checked {
     Fine,
     Refused(Fault, usize),

@@ -3,7 +3,7 @@ ghost use Rattle.std.specs.Prelude.{◌≤◌, ◌<◌, ◌%◌, ◌≡◌, leng
 ghost use Rattle.vectors.specs.Frame.{little, case_head, adler32};
 
 // What stands before a case's rules, rows and order.
-#[derive(Drop)]
+#[derive(Clone, Copy)]
 pub struct Head {
     pub call: u8,
     pub kinds: usize,

@@ -60,7 +60,7 @@ fn run(head: Head, rules: &[u8], rows: &[u8], order: &[u8]) -> bool
 }
 
 // What reading one part of a frame finds.
-#[derive(Drop)]
+#[derive(Clone, Copy)]
 enum Part {
     Bytes(usize),
     Bad,
