@@ -121,6 +121,7 @@ fn put_lines(table: &[u8], rows: usize, out: &mut [u8], at: usize) -> usize
 }
 
 // 01's number of a refusal.
+#[tactic(auto, unfolding(table::specs::Answers::number))]
 pub fn number_of(why: Refusal) -> usize
     ensures { result ≡ number why }
 {
@@ -140,6 +141,7 @@ pub fn number_of(why: Refusal) -> usize
 }
 
 // What 01 returns beside a refusal's number.
+#[tactic(auto, unfolding(table::specs::Answers::returned))]
 pub fn returned_of(why: Refusal) -> usize
     ensures { result ≡ returned why }
 {
@@ -167,6 +169,7 @@ pub fn put_refused(why: Refusal, out: &mut [u8], at: usize) -> usize
 }
 
 // Writes an answer's rows and growing rounds.
+#[tactic(auto, unfolding(crate::specs::Text::closed_words))]
 pub fn put_closed(rows: usize, rounds: usize, out: &mut [u8], at: usize) -> usize
     requires { at + length (closed_words rows rounds) ≤ length out.old }
     ensures { Written (closed_words rows rounds) at out.old out.new result }
