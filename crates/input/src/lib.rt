@@ -1,0 +1,22 @@
+//! Reading a stream into a lent buffer.
+#![tactic(auto)]
+
+ghost use Rattle.std.specs.Prelude.{◌≤◌, length, IfOk};
+
+use std::io;
+use std::io::Read;
+
+// Reads until the buffer is full or the input ends, and gives how many bytes now stand at its front.
+pub fn read_full<R: Read>(reader: &mut R, buffer: &mut [u8]) -> io::Result<usize>
+    ensures { IfOk result (λ n. n ≤ length buffer.new) }
+{
+    let mut done = 0;
+    while done < buffer.len() {
+        let n = reader.read(&mut buffer[done..])?;
+        if n == 0 {
+            break;
+        }
+        done += n;
+    }
+    Ok(done)
+}
