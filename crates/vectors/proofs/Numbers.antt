@@ -1,7 +1,7 @@
 -- Little-endian numbers and checksums, one byte at a time.
 use mathlib.Core.Path.{◌≡◌}
 use mathlib.Core.List.{List, [], ◌∷◌}
-use Prim.Native.Nat.{ℕ, suc, ◌+◌, ◌-◌, ◌*◌, ◌%◌, ◌^◌, ◌≤◌, ◌<◌}
+use Prim.Native.Nat.{ℕ, suc, ◌+◌, ◌*◌, ◌%◌, ◌^◌, ◌≤◌, ◌<◌}
 use native.Mathlib.Nat.{pow-succ', pow-le-pow_right}
 use native.Mathlib.Numerals.{add-one}
 use native.Mathlib.Omega.{arith}

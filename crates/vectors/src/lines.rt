@@ -1,6 +1,5 @@
 // The lines of answers.
-ghost use Rattle.std.specs.Prelude.{◌+◌, ◌≤◌, [], ◌∷◌, ◌++◌, length};
-ghost use Rattle.io.specs.Counts.{IsPrefixLen};
+ghost use Rattle.std.specs.Prelude.{◌≡◌, ◌+◌, ◌≤◌, [], ◌∷◌, ◌++◌, length, take};
 ghost use Rattle.report.specs.Buffer.{Written};
 ghost use Rattle.vectors.specs.Lines.{closing_text, grew_text, done_text, rounded_text, answer_text, areas_text, closing_line, rounded_line, answer_line};
 
@@ -84,7 +83,7 @@ fn put_answer(answer: Answer, out: &mut [u8], at: usize) -> usize
 pub fn closing_line(answer: Closing, table: &[u8], work: &[u8], line: &mut [u8]) -> usize
     requires { 256 ≤ length line.old }
     ensures written { Written (closing_line answer table.now work.now) 0 line.old line.new result }
-    ensures prefix_len { IsPrefixLen result line.new }
+    ensures prefix_len { (result ≤ length line.new) × (result ≡ length (take result line.new)) }
 {
     let end = put_closing(answer, line, 0);
     put_tail(table, work, line, end)
@@ -94,7 +93,7 @@ pub fn closing_line(answer: Closing, table: &[u8], work: &[u8], line: &mut [u8])
 pub fn rounded_line(answer: Rounded, table: &[u8], work: &[u8], line: &mut [u8]) -> usize
     requires { 256 ≤ length line.old }
     ensures written { Written (rounded_line answer table.now work.now) 0 line.old line.new result }
-    ensures prefix_len { IsPrefixLen result line.new }
+    ensures prefix_len { (result ≤ length line.new) × (result ≡ length (take result line.new)) }
 {
     let end = put_rounded(answer, line, 0);
     put_tail(table, work, line, end)
@@ -104,7 +103,7 @@ pub fn rounded_line(answer: Rounded, table: &[u8], work: &[u8], line: &mut [u8])
 pub fn answer_line(answer: Answer, line: &mut [u8]) -> usize
     requires { 256 ≤ length line.old }
     ensures written { Written (answer_line answer) 0 line.old line.new result }
-    ensures prefix_len { IsPrefixLen result line.new }
+    ensures prefix_len { (result ≤ length line.new) × (result ≡ length (take result line.new)) }
 {
     let end = put_answer(answer, line, 0);
     put_byte(b'\n', line, end)
