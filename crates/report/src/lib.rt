@@ -85,7 +85,8 @@ fn put_pairs(row: &[u8], out: &mut [u8], at: usize) -> usize
     let mut kind = 0;
     while kind < row.len() {
         let count = row[kind] as usize;
-        if count > 0 {
+        let shown = count > 0;
+        if shown {
             place = put_pair(first, kind, count, out, place);
             first = false;
         }

@@ -8,7 +8,7 @@ use Rattle.report.specs.Text.{pair, pairs}
 use Rattle.report.proofs.Writing.{left_start, left_room, left_turn, left_stop, front}
 use Rattle.report.proofs.Counting.{pairs_none, pairs_next}
 use Rattle.report.proofs.put_pairs.Goals as goal
-use Rattle.report.proofs.put_pairs.Goals.{else-count-gt0, then-count-gt0}
+use Rattle.report.proofs.put_pairs.Goals.{else-shown, then-shown}
 
 pub loop-kind-init : goal.loop-kind-init
 loop-kind-init c = (omega arith, left_start (pairs true 0 c.args.row.now) c.args.at c.args.out.now)
@@ -23,15 +23,15 @@ put_pair-place-requires c =
 
 pub loop-kind-preserved : goal.loop-kind-preserved
 loop-kind-preserved c =
-    elim c.if-count-gt0.branch [
-      | then-count-gt0 w ↦ (
+    elim c.if-shown.branch [
+      | then-shown w ↦ (
         omega arith,
         rw (w.first-is, w.place-is, w.out-is)
             (left_turn (pair c.loop-kind.first c.loop-kind.kind (get_or c.args.row.now c.loop-kind.kind 0)) (pairs false (c.loop-kind.kind + 1) (drop (c.loop-kind.kind + 1) c.args.row.now)) c.requires
             (rw (pairs_next c.loop-kind.first c.loop-kind.kind c.args.row.now (omega arith) (omega arith)) at c.loop-kind.invariant.1)
             w.put_pair-place.ensures),
       )
-      | else-count-gt0 w ↦ (
+      | else-shown w ↦ (
         omega arith,
         rw (w.first-is, w.place-is, w.out-is) (rw (pairs_none c.loop-kind.first c.loop-kind.kind c.args.row.now (omega arith) (omega arith)) at c.loop-kind.invariant.1),
       )
