@@ -26,8 +26,8 @@ run: $(LISTING)
 # A program is proved on the way, and run once on no input.
 $(LISTING) $(VECTORS): $(CRATE_FILES)
 	@mkdir -p build
-	@(cd $(dir $@).. && $(RT) run </dev/null) >build/$(notdir $@).log 2>&1 || { cat build/$(notdir $@).log; exit 1; }
-	@touch $@
+	@(cd crates/$(notdir $@) && $(RT) run </dev/null) >build/$(notdir $@).log 2>&1 || { cat build/$(notdir $@).log; exit 1; }
+	@touch -c $@
 
 # The whole check. The proofs' last line, 'N passed, 0 failed', is held back until all else has passed, and is the last line here.
 test:
@@ -68,7 +68,7 @@ listings: second-program $(LISTING)
 $(ARCHIVE): $(CRATE_FILES)
 	@mkdir -p build
 	@(cd crates/ludwavyn && $(RT) lib) >build/ludwavyn.log 2>&1 || { cat build/ludwavyn.log; exit 1; }
-	@touch $@
+	@touch -c $@
 
 build/ask: examples/ask.c include/ludwavyn.h $(ARCHIVE)
 	@mkdir -p build
