@@ -11,7 +11,7 @@ use Rattle.tokens.specs.Tables.{well_formed}
 use Rattle.logic.specs.Goals.{Goal, Clause}
 use Rattle.goals.specs.Parsing.{Parsed, goal, fault, parse_at}
 use Rattle.goals.specs.Limits.{runs_within}
-use Rattle.goals.specs.Readings.{Reading, read, refused as misread, ◌>>=◌, ends, Program, clauses, refused_at, program, first, goals, order as order_of}
+use Rattle.goals.specs.Readings.{Reading, read, refused as misread, ◌>>=◌, Program, clauses, refused_at, program, first, goals, order as order_of}
 use Rattle.goals.specs.Sets.{opening, order_rows, opened_order}
 use Rattle.rounds.specs.Round.{limits, Run, going, stopped, Rule, Growth, round, Ending, closed, refused as refused_in, close, answer}
 use Rattle.rounds.proofs.ClosingLaws.{close_closed, close_refused}

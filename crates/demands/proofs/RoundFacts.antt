@@ -5,7 +5,7 @@ use mathlib.Core.Bool.{Bool, true, false, ◌||◌}
 use mathlib.Core.Path.{◌≡◌, refl, sym, ap, subst, fun_ext, ◌∙◌}
 use mathlib.Core.List.Memᴰ
 use mathlib.Core.List.{List, map}
-use mathlib.Core.Logic.{◌⊎◌, inl, inr, ⊎_elim, ◌↔◌}
+use mathlib.Core.Logic.{inl, inr, ⊎_elim, ◌↔◌}
 use lib.ListN.{length}
 use Rattle.tokens.specs.Sets.{included, minus, plus}
 use Rattle.tokens.specs.Tables.{every, covered, Wide}

@@ -7,7 +7,7 @@ use native.Mathlib.Nat.{one-mul}
 use native.Mathlib.Omega.{arith}
 use lib.ListN.{length, take, drop, get_or, replicate, length-append, length-drop}
 use lib.Seq.{take-length}
-use Rattle.tokens.specs.Sets.{empty, over}
+use Rattle.tokens.specs.Sets.{plus, over}
 use Rattle.tokens.specs.Tables.{every, blank_from}
 use Rattle.tokens.specs.Rows.{row, rows}
 use Rattle.tokens.proofs.BlankLaws.{at_blank}
@@ -16,19 +16,18 @@ use Rattle.tokens.proofs.RowLaws.{length_rows, rows_at}
 use Rattle.logic.specs.Goals.{Goal, Clause}
 use Rattle.logic.specs.Branches.{opened_all, ways, branches, branches_c}
 use Rattle.logic.proofs.BranchLaws.{length_sums, length_opened}
-use Rattle.goals.specs.declared.Admission.{Admission}
-use Rattle.goals.specs.declared.Admission.TheVariants.{Fine, Refused}
+use Rattle.std.specs.Prelude.{Result, Ok, Err}
+use Rattle.goals.specs.declared.RuleFault.{RuleFault}
 use Rattle.goals.specs.declared.OpenedRule.{OpenedRule}
-use Rattle.goals.specs.declared.OpenedOrder.{OpenedOrder}
 use Rattle.goals.specs.Limits.{within, runs_within}
-use Rattle.goals.specs.Readings.{Reading, read, refused, ◌>>=◌, head, body, rule, Program, clauses, refused_at, and_then, records, program, order}
-use Rattle.goals.specs.Sets.{one, set_of, branch_rows, order_rows, opening, opened_rule, opened_order}
-use Rattle.goals.specs.Answers.{rows_of, fault_number, admission_of, rule_of, order_of, passes, stops, told}
+use Rattle.goals.specs.Readings.{Reading, read, refused, ◌>>=◌, head, body, rule, Program, clauses, refused_at, and_then, records, program}
+use Rattle.goals.specs.Sets.{one, set_of, branch_rows, order_rows, opening, opened_rule}
+use Rattle.goals.specs.Answers.{rows_of, rule_fault_number, rule_of}
 use Rattle.goals.specs.Printing.{print}
 use Rattle.goals.proofs.Readings.{not_refused, same_read, granted, steps, known}
-use Rattle.goals.proofs.PrintLaws.{Printed, body_printed, printed_body, Headed, head_printed, printed_head, Ordered, order_printed}
+use Rattle.goals.proofs.PrintLaws.{Printed, body_printed, printed_body, Headed, head_printed, printed_head, Ordered}
 use Rattle.goals.proofs.ParseLaws.{print_odd}
-use Rattle.goals.proofs.LimitLaws.{within_few, ways_all, runs_few}
+use Rattle.goals.proofs.LimitLaws.{ways_all, runs_few}
 use Rattle.goals.proofs.RowLaws.{set_of_from, branch_rows_are, order_rows_are, branch_low, order_low}
 use Rattle.goals.proofs.ListLaws.{counts}
 
@@ -72,40 +71,28 @@ pub head_blank : (n : ℕ) (s : List ℕ) (C : Clause) → Ruled n s C → blank
 head_blank n s C r = at_blank n (set_of C.head) (λ k. set_of_from n C.head r.heading.kinds (n + k) (omega arith))
 
 -- what the answer for such a record holds
-pub record Opens (r : OpenedRule) (C : Clause) : Type 0 where
-  pub passed : r.admission ≡ Fine
-  pub the_head : r.head ≡ set_of C.head
-  pub the_rows : rows_of r.list ≡ branch_rows C.body
-  pub count : r.list.count ≡ ways C.body
-  pub few : r.list.count ≤ 16
+pub record Opens (r : Result OpenedRule RuleFault) (C : Clause) : Type 0 where
+  pub opened : OpenedRule
+  pub passed : r ≡ Ok opened
+  pub the_head : opened.head ≡ set_of C.head
+  pub the_rows : rows_of opened.list ≡ branch_rows C.body
+  pub count : opened.list.count ≡ ways C.body
 
-admission_read : {A : Type 0} (o : Admission) (a b : A) → admission_of o a ≡ read b → (o ≡ Fine) × (a ≡ b)
-admission_read Fine a b e = (refl, same_read a b e)
-admission_read (Refused f) a b e = not_refused (fault_number f) b e
-
-pub rule_opens : (n : ℕ) (s : List ℕ) (r : OpenedRule) (C : Clause) → rule_of r ≡ opened_rule n s → rule n s ≡ read C → Opens r C
+pub rule_opens : (n : ℕ) (s : List ℕ) (r : Result OpenedRule RuleFault) (C : Clause) → rule_of r ≡ opened_rule n s → rule n s ≡ read C → Opens r C
 unfolding opened_rule opening branch_rows
-rule_opens n s r C e d =
-    let o = admission_read r.admission (record { head = r.head; branches = rows_of r.list }) (opening C) (e ∙ known (rule n s) (λ K. read (opening K)) C d) in
-    let l : rows_of r.list ≡ branch_rows C.body = ap (λ x. x.branches) o.1 in
-    let k : r.list.count ≡ ways C.body = counts r.list (branch_rows C.body) l ∙ length_opened one _ C.body in
+rule_opens n s (Ok o) C e d =
+    let q = same_read _ _ (e ∙ known (rule n s) (λ K. read (opening K)) C d) in
+    let l : rows_of o.list ≡ branch_rows C.body = ap (λ x. x.branches) q in
     record {
-      passed = o.0;
-      the_head = ap (λ x. x.head) o.1;
+      opened = o;
+      passed = refl;
+      the_head = ap (λ x. x.head) q;
       the_rows = l;
-      count = k;
-      few = rw k (within_few 16 C.body (rule_printed n s C d).few);
+      count = counts o.list (branch_rows C.body) l ∙ length_opened one _ C.body;
     }
+rule_opens n s (Err f) C e d = not_refused (rule_fault_number f) (opening C) (e ∙ known (rule n s) (λ K. read (opening K)) C d)
 
 -- ---- a rule set
-
-pub told_passes : (p : Program) → told p ≡ passes → (P : List Clause) × (p ≡ clauses P)
-told_passes (clauses P) e = (P, refl)
-told_passes (refused_at k i) e = absurd (let z : ◌≡◌ {A = ℕ} 0 1 = cc in let w : ⊥ = omega arith in w)
-
-pub told_stops : (p : Program) (k i : ℕ) → told p ≡ stops k i → p ≡ refused_at k i
-told_stops (clauses P) k i e = absurd (let z : ◌≡◌ {A = ℕ} 0 1 = cc in let w : ⊥ = omega arith in w)
-told_stops (refused_at j m) k i e = cc
 
 -- the clauses are those of the records, in their order
 records_read : (n i : ℕ) (rs : List (List ℕ)) (P : List Clause) → records n i rs ≡ clauses P → map (rule n) rs ≡ map read P
@@ -202,18 +189,6 @@ pub runs_few_all : (m : ℕ) (Δ : List Goal) → 1 ≤ m → runs_within m 1 Δ
 unfolding ways_all
 runs_few_all m [] h e = h
 runs_few_all m (G ∷ Δ) h e = subst (λ (l : List Goal). ways_all l ≤ m) (take-length (G ∷ Δ)) (rw one-mul at ((runs_few m 1 (G ∷ Δ) e).runs (length Δ) (omega arith)))
-
-pub record OpensOrder (r : OpenedOrder) (Δ : List Goal) : Type 0 where
-  pub passed : r.admission ≡ Fine
-  pub the_rows : rows_of r.list ≡ order_rows Δ
-  pub few : r.list.count ≤ 16
-
-pub order_opens : (n : ℕ) (s : List ℕ) (r : OpenedOrder) (Δ : List Goal) → order_of r ≡ opened_order n s → order n s ≡ read Δ → OpensOrder r Δ
-unfolding opened_order order_rows
-order_opens n s r Δ e d =
-    let o = admission_read r.admission (rows_of r.list) (order_rows Δ) (e ∙ known (order n s) (λ Γ. read (order_rows Γ)) Δ d) in
-    let k : r.list.count ≡ ways_all Δ = counts r.list (order_rows Δ) o.1 ∙ length_opened_all one _ empty Δ in
-    record { passed = o.0; the_rows = o.1; few = rw k (runs_few_all 16 Δ (omega arith) (order_printed n s Δ d).few) }
 
 -- no count of an order's branches is above 64
 pub order_low_64 : (n : ℕ) (s : List ℕ) (Δ : List Goal) → Ordered n s Δ → every (λ r. not (over 64 r)) (order_rows Δ) ≡ true

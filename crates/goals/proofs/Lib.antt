@@ -3,11 +3,11 @@ pub mod ParseLaws
 pub mod PrintLaws
 pub mod LimitLaws
 pub mod RowLaws
-pub mod CallerLaws
 pub mod Examples
 pub mod ListLaws
+pub mod ViewLaws
 pub mod ScanLaws
 pub mod HeadLaws
-pub mod ViewLaws
 pub mod RuleLaws
 pub mod OrderLaws
+pub mod CallerLaws

@@ -14,8 +14,9 @@ use Rattle.tokens.proofs.Tests.{both, and_l, and_r}
 use Rattle.logic.specs.Goals.{Goal, kind, ⊤, ◌⅋◌, ◌&◌}
 use Rattle.goals.specs.declared.Op.{Op}
 use Rattle.goals.specs.declared.Op.TheVariants.{Together, Both}
+use Rattle.std.specs.Prelude.{Option, Some, None}
 use Rattle.goals.specs.declared.Code.{Code}
-use Rattle.goals.specs.declared.Code.TheVariants.{Kind, Done, Pair, Fault}
+use Rattle.goals.specs.declared.Code.TheVariants.{Kind, Done, Pair}
 use Rattle.goals.specs.Codes.{is_kind, code, code_at}
 use Rattle.goals.specs.Parsing.{Parsed, goal, fault, node, past, read_on, parse, parse_at}
 use Rattle.goals.specs.Printing.{print, below}
@@ -27,13 +28,13 @@ op_code Together = 65
 op_code Both = 66
 
 -- what stands at a place where a code is read
-abbrev pub Says : ℕ → List ℕ → ℕ → Code → Type 0
-Says n s at (Kind k) = (drop at s ≡ k ∷ drop (at + 1) s) × (is_kind n k ≡ true)
-Says n s at Done = drop at s ≡ 64 ∷ drop (at + 1) s
-Says n s at (Pair op) = drop at s ≡ op_code op ∷ drop (at + 1) s
-Says n s at Fault = Unit
+abbrev pub Says : ℕ → List ℕ → ℕ → Option Code → Type 0
+Says n s at (Some (Kind k)) = (drop at s ≡ k ∷ drop (at + 1) s) × (is_kind n k ≡ true)
+Says n s at (Some Done) = drop at s ≡ 64 ∷ drop (at + 1) s
+Says n s at (Some (Pair op)) = drop at s ≡ op_code op ∷ drop (at + 1) s
+Says n s at None = Unit
 
-says_cond : (b : Bool) (x y : Code) (n : ℕ) (s : List ℕ) (at : ℕ) → (b ≡ true → Says n s at x) → (b ≡ false → Says n s at y)
+says_cond : (b : Bool) (x y : Option Code) (n : ℕ) (s : List ℕ) (at : ℕ) → (b ≡ true → Says n s at x) → (b ≡ false → Says n s at y)
     → Says n s at (cond b x y)
 says_cond true x y n s at p q = p refl
 says_cond false x y n s at p q = q refl
@@ -45,12 +46,12 @@ pub says : (n : ℕ) (s : List ℕ) (at : ℕ) → Says n s at (code_at n s at)
 unfolding code_at code
 says n s at =
     let b = get_or s at 0 in
-    says_cond (leb (length s) at) Fault _ n s at (λ _. tt)
+    says_cond (leb (length s) at) None _ n s at (λ _. tt)
     (λ f. let lt : at < length s = leb-false (length s) at f in
-    says_cond (is_kind n b) (Kind b) _ n s at (λ t. (next_is s at b lt refl, t))
-    (λ _. says_cond (eqb b 64) Done _ n s at (λ t. next_is s at 64 lt (eqb-true b 64 t))
-    (λ _. says_cond (eqb b 65) (Pair Together) _ n s at (λ t. next_is s at 65 lt (eqb-true b 65 t))
-    (λ _. says_cond (eqb b 66) (Pair Both) Fault n s at (λ t. next_is s at 66 lt (eqb-true b 66 t)) (λ _. tt)))))
+    says_cond (is_kind n b) (Some (Kind b)) _ n s at (λ t. (next_is s at b lt refl, t))
+    (λ _. says_cond (eqb b 64) (Some Done) _ n s at (λ t. next_is s at 64 lt (eqb-true b 64 t))
+    (λ _. says_cond (eqb b 65) (Some (Pair Together)) _ n s at (λ t. next_is s at 65 lt (eqb-true b 65 t))
+    (λ _. says_cond (eqb b 66) (Some (Pair Both)) None n s at (λ t. next_is s at 66 lt (eqb-true b 66 t)) (λ _. tt)))))
 
 pub here_lt : (s : List ℕ) (at b : ℕ) (r : List ℕ) → drop at s ≡ b ∷ r → at < length s
 here_lt s at b r e = omega (arith, ap length e, length-drop at s)
@@ -66,21 +67,21 @@ code_is : (n : ℕ) (s : List ℕ) (at b : ℕ) (r : List ℕ) → drop at s ≡
 unfolding code_at
 code_is n s at b r e = rw (here_is s at b r e) (simp (lt-leb _ _ (here_lt s at b r e)))
 
-kind_code : (n k : ℕ) → is_kind n k ≡ true → code n k ≡ Kind k
+kind_code : (n k : ℕ) → is_kind n k ≡ true → code n k ≡ Some (Kind k)
 unfolding code
 kind_code n k e = rw e
 
-done_code : (n : ℕ) → code n 64 ≡ Done
+done_code : (n : ℕ) → code n 64 ≡ Some Done
 unfolding code is_kind
 done_code n = refl
 
-pair_code : (n : ℕ) (op : Op) → code n (op_code op) ≡ Pair op
+pair_code : (n : ℕ) (op : Op) → code n (op_code op) ≡ Some (Pair op)
 unfolding code is_kind
 pair_code n Together = refl
 pair_code n Both = refl
 
 -- past the end no code is read
-end_code : (n : ℕ) (s : List ℕ) (at : ℕ) → length s ≤ at → code_at n s at ≡ Fault
+end_code : (n : ℕ) (s : List ℕ) (at : ℕ) → length s ≤ at → code_at n s at ≡ None
 unfolding code_at
 end_code n s at h = simp (le-leb _ _ h)
 
@@ -118,13 +119,13 @@ left_stands : (n : ℕ) (s : List ℕ) (at : ℕ) (op : Op) (x : Parsed) (inner 
 left_stands n s at op (goal G m) inner p q r = right_stands n s at m op G (inner m) p q (r m)
 left_stands n s at op fault inner p q r = tt
 
-on_stands : (n : ℕ) (s : List ℕ) (at : ℕ) (c : Code) (inner : ℕ → Parsed) → Says n s at c → ((i : ℕ) → Stands n s i (inner i))
+on_stands : (n : ℕ) (s : List ℕ) (at : ℕ) (c : Option Code) (inner : ℕ → Parsed) → Says n s at c → ((i : ℕ) → Stands n s i (inner i))
     → Stands n s at (read_on c (at + 1) inner)
 unfolding print below
-on_stands n s at (Kind k) inner p r = (p.0, (p.1, (refl, omega (arith, here_lt s at k _ p.0))))
-on_stands n s at Done inner p r = (p, (refl, (refl, omega (arith, here_lt s at 64 _ p))))
-on_stands n s at (Pair op) inner p r = left_stands n s at op (inner (at + 1)) inner p (r (at + 1)) r
-on_stands n s at Fault inner p r = tt
+on_stands n s at (Some (Kind k)) inner p r = (p.0, (p.1, (refl, omega (arith, here_lt s at k _ p.0))))
+on_stands n s at (Some Done) inner p r = (p, (refl, (refl, omega (arith, here_lt s at 64 _ p))))
+on_stands n s at (Some (Pair op)) inner p r = left_stands n s at op (inner (at + 1)) inner p (r (at + 1)) r
+on_stands n s at None inner p r = tt
 
 stands : (f n : ℕ) (s : List ℕ) (at : ℕ) → Stands n s at (parse f n s at)
 unfolding parse
@@ -173,14 +174,14 @@ right_same : (n : ℕ) (s : List ℕ) (at : ℕ) (op : Op) (x : Parsed) (p q : �
 right_same n s at op (goal G m) p q st eq = ap (λ y. past y (λ H e. goal (node op G H) e)) (eq m (omega (arith, st.1.1.0)))
 right_same n s at op fault p q st eq = refl
 
-on_same : (n : ℕ) (s : List ℕ) (at : ℕ) (c : Code) (p q : ℕ → Parsed) → ((i : ℕ) → Stands n s i (p i)) → ((i : ℕ) → at < i → p i ≡ q i)
+on_same : (n : ℕ) (s : List ℕ) (at : ℕ) (c : Option Code) (p q : ℕ → Parsed) → ((i : ℕ) → Stands n s i (p i)) → ((i : ℕ) → at < i → p i ≡ q i)
     → read_on c (at + 1) p ≡ read_on c (at + 1) q
-on_same n s at (Kind k) p q st eq = refl
-on_same n s at Done p q st eq = refl
-on_same n s at (Pair op) p q st eq =
+on_same n s at (Some (Kind k)) p q st eq = refl
+on_same n s at (Some Done) p q st eq = refl
+on_same n s at (Some (Pair op)) p q st eq =
     right_same n s at op (p (at + 1)) p q (st (at + 1)) eq
     ∙ ap (λ x. past x (λ G m. past (q m) (λ H e. goal (node op G H) e))) (eq (at + 1) (omega arith))
-on_same n s at Fault p q st eq = refl
+on_same n s at None p q st eq = refl
 
 -- any two amounts of fuel that reach the end give one reading
 pub fuel : (f k n : ℕ) (s : List ℕ) (at : ℕ) → length s ≤ at + f → length s ≤ at + k → parse f n s at ≡ parse k n s at

@@ -8,7 +8,7 @@ use native.Mathlib.Numerals.{add-one}
 use native.Mathlib.Omega.{arith}
 use lib.Dec.{ltb, leb, eqb}
 use lib.ListN.{length, get_or, set, take, replicate, length-append, length-set}
-use lib.Seq.{take-suc, get_or-set_same, get_or-set_other}
+use lib.Seq.{take-suc, length-take-le, get_or-set_same, get_or-set_other}
 use borrow.Author.Tests.{le-leb, leb-true, ltb-true, eqb-true, eqb-false}
 use Rattle.tokens.specs.Sets.{empty, plus, cut, over}
 use Rattle.tokens.specs.Tables.{every, blank_from, Wide, none, more}
@@ -106,6 +106,9 @@ pub set_of_low : (b : List ℕ) (k : ℕ) → get_or (set_of b) k 0 ≤ length b
 unfolding set_of
 set_of_low [] k = omega (arith, empty_at k)
 set_of_low (j ∷ b) k = omega (arith, plus_at (one j) (set_of b) k, one_low j k, set_of_low b k)
+
+pub set_of_front_low : (s : List ℕ) (i k : ℕ) → i ≤ length s → get_or (set_of (take i s)) k 0 ≤ i
+set_of_front_low s i k h = omega (arith, set_of_low (take i s) k, length-take-le i s h)
 
 one_away : (k j : ℕ) → k < j → get_or (one k) j 0 ≡ 0
 unfolding one

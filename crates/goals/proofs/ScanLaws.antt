@@ -1,71 +1,50 @@
--- What the loops over bytes keep: padding, the kinds in front, and a head that never descends.
-use mathlib.Core.Path.{◌≡◌, refl, sym, ap, ap₂, ◌∙◌}
+-- The tests of 01 over bytes, in the words of the library: padding, the kinds in front, and a head that never descends.
+use mathlib.Core.Path.{◌≡◌, refl, sym, ap, ◌∙◌}
 use mathlib.Core.List.{List, [], ◌∷◌}
-use mathlib.Core.Bool.{true, false}
-use Prim.Native.Nat.{ℕ, suc, ◌+◌, ◌≤◌, ◌<◌}
+use mathlib.Core.Bool.{Bool, true, false, ◌&&◌, and-false, cond}
+use Prim.Native.Nat.{ℕ, zero, suc, ◌+◌, ◌≤◌, ◌<◌}
 use native.Mathlib.Omega.{arith}
 use native.Mathlib.Numerals.{add-one}
-use lib.ListN.{length, get_or, take, drop, drop_of_length-le, length-drop}
-use lib.Seq.{drop-cons, get_or-take, length-take-le}
-use borrow.Author.Tests.{le-leb, lt-leb, eq-eqb, ne_eqb}
+use lib.Dec.{leb, eqb}
+use lib.ListN.{length, get_or}
+use borrow.Author.Tests.{le-leb, lt-leb}
+use Rattle.std.specs.Bool.{MatchBool}
+use Rattle.std.specs.List.Sorted.{IsNonDecreasing}
+use Rattle.std.specs.Prelude.{Some}
+use Rattle.std.specs.Ordering.{nat_cmp, is_le, is_some_and}
+use Rattle.std.specs.List.{list_all, prefix_len, IsAllAdjacentAnswer}
+use Rattle.std.proofs.lemmas.List.Sorted.{non_decreasing_from_is_sorted}
 use Rattle.goals.specs.Codes.{is_kind}
 use Rattle.goals.specs.Readings.{padded, climbs, front}
 
-module _ (s : List ℕ) (i : ℕ) where
-  pub padded_end : length s ≤ i → padded (drop i s) ≡ true
-  unfolding padded
-  padded_end h = rw (drop_of_length-le s h)
+pub padded_all : (s : List ℕ) → list_all (λ b. eqb b 255) s ≡ padded s
+unfolding padded
+padded_all [] = refl
+padded_all (b ∷ s) = ap (λ t. eqb b 255 && t) (padded_all s)
 
-  pub padded_no : i < length s → (get_or s i 0 ≡ 255 → ⊥) → padded (drop i s) ≡ false
-  unfolding padded
-  padded_no h d = rw (drop-cons s i 0 h, ne_eqb _ _ d)
+pub front_prefix : (n : ℕ) (s : List ℕ) → prefix_len (is_kind n) s ≡ front n s
+unfolding front
+front_prefix n [] = refl
+front_prefix n (b ∷ s) = let e = front_prefix n s in ap (λ (k : ℕ). cond (is_kind n b) k 0) (omega arith)
 
-  pub padded_more : i < length s → get_or s i 0 ≡ 255 → padded (drop i s) ≡ padded (drop (i + 1) s)
-  unfolding padded
-  padded_more h e = rw (add-one, drop-cons s i 0 h, eq-eqb _ _ e)
-
-module _ (n : ℕ) (s : List ℕ) (i : ℕ) where
-  pub front_end : length s ≤ i → front n (drop i s) ≡ 0
-  unfolding front
-  front_end h = rw (drop_of_length-le s h)
-
-  pub front_no : i < length s → is_kind n (get_or s i 0) ≡ false → front n (drop i s) ≡ 0
-  unfolding front
-  front_no h e = rw (drop-cons s i 0 h, e)
-
-  pub front_more : i < length s → is_kind n (get_or s i 0) ≡ true → front n (drop i s) ≡ suc (front n (drop (i + 1) s))
-  unfolding front
-  front_more h e = rw (add-one, drop-cons s i 0 h, e)
-
-short_climbs : (l : List ℕ) → length l ≤ 1 → climbs l ≡ true
+-- the two answers of the test
+pub rises : (s : List ℕ) → ((k : ℕ) → suc k < length s → get_or s k 0 ≤ get_or s (suc k) 0) → climbs s ≡ true
 unfolding climbs
-short_climbs [] h = refl
-short_climbs (a ∷ []) h = refl
-short_climbs (a ∷ b ∷ l) h = absurd (omega arith)
+rises [] h = refl
+rises (a ∷ []) h = refl
+rises (a ∷ b ∷ s) h = rw (le-leb a b (h 0 (omega arith)), rises (b ∷ s) (λ k l. h (suc k) (omega arith)))
 
-module _ (s : List ℕ) (k i : ℕ) (fits : k ≤ length s) where
-  pub climbs_end : k ≤ i + 1 → climbs (drop i (take k s)) ≡ true
-  climbs_end h = short_climbs (drop i (take k s)) (rw (length-drop i (take k s), length-take-le k s fits) (omega arith))
+pub falls : (s : List ℕ) (k : ℕ) → suc k < length s → get_or s (suc k) 0 < get_or s k 0 → climbs s ≡ false
+unfolding climbs
+falls [] k h d = absurd (omega arith)
+falls (a ∷ []) k h d = absurd (omega arith)
+falls (a ∷ b ∷ s) zero h d = rw (lt-leb a b d)
+falls (a ∷ b ∷ s) (suc k) h d = ap (λ t. leb a b && t) (falls (b ∷ s) k (omega arith) d) ∙ and-false (leb a b)
 
-  pair : i + 1 < k → drop i (take k s) ≡ get_or s i 0 ∷ get_or s (i + 1) 0 ∷ drop (suc (suc i)) (take k s)
-  pair h =
-      let len : length (take k s) ≡ k = length-take-le k s fits in
-      drop-cons (take k s) i 0 (omega arith)
-      ∙ ap₂ (λ (x : ℕ) (l : List ℕ). x ∷ l) (get_or-take k s i 0 (omega arith))
-      (drop-cons (take k s) (suc i) 0 (omega arith)
-      ∙ ap (λ (x : ℕ). x ∷ drop (suc (suc i)) (take k s)) (get_or-take k s (suc i) 0 (omega arith) ∙ ap (λ (j : ℕ). get_or s j 0) (sym (add-one i))))
-
-  next : i + 1 < k → drop (i + 1) (take k s) ≡ get_or s (i + 1) 0 ∷ drop (suc (suc i)) (take k s)
-  next h =
-      let len : length (take k s) ≡ k = length-take-le k s fits in
-      ap (λ (j : ℕ). drop j (take k s)) (add-one i)
-      ∙ drop-cons (take k s) (suc i) 0 (omega arith)
-      ∙ ap (λ (x : ℕ). x ∷ drop (suc (suc i)) (take k s)) (get_or-take k s (suc i) 0 (omega arith) ∙ ap (λ (j : ℕ). get_or s j 0) (sym (add-one i)))
-
-  pub climbs_no : i + 1 < k → get_or s (i + 1) 0 < get_or s i 0 → climbs (drop i (take k s)) ≡ false
-  unfolding climbs
-  climbs_no h d = rw (pair h, lt-leb (get_or s i 0) (get_or s (i + 1) 0) d)
-
-  pub climbs_more : i + 1 < k → get_or s i 0 ≤ get_or s (i + 1) 0 → climbs (drop i (take k s)) ≡ climbs (drop (i + 1) (take k s))
-  unfolding climbs
-  climbs_more h d = rw (next h, pair h, le-leb (get_or s i 0) (get_or s (i + 1) 0) d)
+-- what `is_sorted` answers
+pub climbs_answer : (s : List ℕ) (r : Bool) → IsAllAdjacentAnswer (λ x y b. is_some_and is_le (Some (nat_cmp x y)) ≡ b) s r → r ≡ climbs s
+climbs_answer s r h = by r (non_decreasing_from_is_sorted s r h)
+  where
+    by : (r : Bool) → MatchBool r (IsNonDecreasing s) ((k : ℕ) × (k + 1 < length s) × ((d : ℕ) → get_or s (k + 1) d < get_or s k d)) → r ≡ climbs s
+    by true h = sym (rises s (λ k l. h k (suc k) 0 (omega arith) l))
+    by false h = let d = h.2 0 in sym (falls s h.0 (rw add-one at h.1) (rw add-one at d))

@@ -1,10 +1,10 @@
 -- A goal written operator first (01, "Rule records").
-use Rattle.std.specs.Prelude.{ℕ, zero, suc, ◌+◌, List, length}
+use Rattle.std.specs.Prelude.{ℕ, zero, suc, ◌+◌, Option, Some, None, List, length}
 use Rattle.logic.specs.Goals.{Goal, kind, ⊤, ◌⅋◌, ◌&◌}
 use Rattle.goals.specs.declared.Op.{Op}
 use Rattle.goals.specs.declared.Op.TheVariants.{Together, Both}
 use Rattle.goals.specs.declared.Code.{Code}
-use Rattle.goals.specs.declared.Code.TheVariants.{Kind, Done, Pair, Fault}
+use Rattle.goals.specs.declared.Code.TheVariants.{Kind, Done, Pair}
 use Rattle.goals.specs.Codes.{code_at}
 
 -- a goal and the place past it; or a fault
@@ -24,11 +24,11 @@ past fault f = fault
 
 -- "A code 65 or 66 is followed by its left and its right goal, which may be compound themselves." `next` is the place
 -- past the code, and `inner` reads the goal at a place.
-abbrev pub read_on : Code → ℕ → (ℕ → Parsed) → Parsed
-read_on (Kind k) next inner = goal (kind k) next
-read_on Done next inner = goal ⊤ next
-read_on (Pair op) next inner = past (inner next) (λ G m. past (inner m) (λ H e. goal (node op G H) e))
-read_on Fault next inner = fault
+abbrev pub read_on : Option Code → ℕ → (ℕ → Parsed) → Parsed
+read_on (Some (Kind k)) next inner = goal (kind k) next
+read_on (Some Done) next inner = goal ⊤ next
+read_on (Some (Pair op)) next inner = past (inner next) (λ G m. past (inner m) (λ H e. goal (node op G H) e))
+read_on None next inner = fault
 
 -- the goal at a place of s, with operators nested less than f deep
 unfoldable pub parse : ℕ → ℕ → List ℕ → ℕ → Parsed

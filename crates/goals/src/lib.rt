@@ -1,24 +1,20 @@
 //! Reading rule records and orders (01, "Rule records" and "Branches"): from bytes to heads as sets and branches as rows.
 #![tactic(auto)]
 
-ghost use Rattle.std.specs.Prelude.{◌≡◌, [], ◌∷◌, ◌++◌, map, ℕ, ◌+◌, ◌*◌, ◌≤◌, ◌<◌, length, get_or, take, drop};
-ghost use Rattle.tokens.specs.Sets.{empty};
+ghost use Rattle.std.specs.Prelude.{◌≡◌, ◌++◌, map, ℕ, ◌+◌, ◌*◌, ◌≤◌, ◌<◌, length, get_or, drop};
 ghost use Rattle.logic.specs.Branches.{sums};
 ghost use Rattle.goals.specs.Codes.{is_kind, code};
 ghost use Rattle.goals.specs.Parsing.{parse_at};
-ghost use Rattle.goals.specs.Readings.{Reading, padded, climbs, front, program};
+ghost use Rattle.goals.specs.Readings.{padded, climbs, front, program};
 ghost use Rattle.goals.specs.Sets.{one, set_of, opened_rule, opened_order};
-ghost use Rattle.goals.specs.Answers.{rows_of, fault_number, rule_of, order_of, told, told_of};
-ghost use Rattle.goals.specs.Views.{step_at, capped, view_of, view, View, View.bad, View.over, View.fine, joined_v, worse_v, combine_v, Short, body_v, goals_v, head_of, head_v};
+ghost use Rattle.goals.specs.Answers.{rows_of, rule_of, order_of, told, told_of};
+ghost use Rattle.goals.specs.Views.{step_at, capped, view_of, view, list_of, combined, head_of, opened_head, body_of, opened_body};
 
-use tokens::{read_row, sum_cut, write_row};
+use tokens::{Set, sum_cut};
 
-// A list of at most 16 token sets: the first `count` rows of 32 counts. What stands past them is left open.
-#[derive(Clone, Copy)]
-pub struct Branches {
-    pub count: usize,
-    pub sets: [u8; 512],
-}
+mod branches;
+
+pub use branches::Branches;
 
 // The two operators between goals: ⅋ ("together") and & ("both ways").
 #[derive(Clone, Copy)]
@@ -33,7 +29,6 @@ enum Code {
     Kind(usize),
     Done,
     Pair(Op),
-    Fault,
 }
 
 // A place in a slice of codes.
@@ -42,565 +37,255 @@ struct Cursor {
     at: usize,
 }
 
-// The code at a cursor, and the cursor moved past it.
-#[derive(Clone, Copy)]
-struct Step {
-    code: Code,
-    next: Cursor,
-}
-
-// Whether what was read is well written, and opens into 16 branches at most.
-#[derive(Clone, Copy)]
-enum Verdict {
-    Fine,
-    Over,
-    Bad,
-}
-
-// What reading a goal gives: the list counts where the verdict is Fine, the cursor where it is not Bad.
+// A goal that was read: the cursor past it, and its branches; no list where a part of it opens into more than 16.
 #[derive(Clone, Copy)]
 struct Opened {
-    verdict: Verdict,
     next: Cursor,
-    list: Branches,
+    list: Option<Branches>,
 }
 
-// A head as a set, which counts where it is well written.
-#[derive(Clone, Copy)]
-struct HeadSet {
-    good: bool,
-    set: [u8; 32],
-}
-
-// What a rule or an order is refused for: 4, 5, 6 and 10 of 01.
-#[derive(Clone, Copy)]
-pub enum Fault {
+// What a rule record is refused for: 4, 5 and 6 of 01.
+#[derive(Clone, Copy, Debug, PartialEq, Eq)]
+pub enum RuleFault {
     Head,
     Body,
     Over,
+}
+
+// What an order is refused for: 10 and 6 of 01.
+#[derive(Clone, Copy, Debug, PartialEq, Eq)]
+pub enum OrderFault {
     Order,
+    Over,
 }
 
-// Whether a rule or an order is refused, and for what.
-#[derive(Clone, Copy)]
-pub enum Admission {
-    Fine,
-    Refused(Fault),
-}
-
-// A rule record, opened: head and branches count where the admission is Fine.
+// A rule record, opened: its head as a set, and its body's branches.
 #[derive(Clone, Copy)]
 pub struct OpenedRule {
-    pub admission: Admission,
-    pub head: [u8; 32],
+    pub head: Set,
     pub list: Branches,
 }
 
-// An order, opened: the branches count where the admission is Fine.
-#[derive(Clone, Copy)]
-pub struct OpenedOrder {
-    pub admission: Admission,
-    pub list: Branches,
-}
-
-// Whether a rule set is refused: the first refusal and its record's number.
-#[derive(Clone, Copy)]
-pub enum Checked {
-    Fine,
-    Refused(Fault, usize),
+// The first record of a rule set that is refused: what for, and its number.
+#[derive(Clone, Copy, Debug, PartialEq, Eq)]
+pub struct BadRecord {
+    pub fault: RuleFault,
+    pub record: usize,
 }
 
 impl Cursor {
-    // The code at the cursor with the cursor moved past it; past the end of s a fault.
-    fn next(self, s: &[u8], kinds: usize) -> Step
+    // The code at the cursor with the cursor moved past it; none where the byte there is no code, or past the end of s.
+    #[tactic(auto, unfolding(crate::specs::Views::step_at, crate::specs::Codes::code_at))]
+    fn next(self, s: &[u8], kinds: usize) -> Option<(Code, Cursor)>
         ensures { result ≡ step_at kinds s.now self.at }
     {
-        let at = self.at;
-        if s.len() <= at {
-            return Step {
-                code: Code::Fault,
-                next: self,
-            };
-        }
-        let b = s[at] as usize;
-        Step {
-            code: decode(b, kinds),
-            next: Cursor { at: at + 1 },
-        }
+        let b = *s.get(self.at)?;
+        let code = decode(b, kinds)?;
+        Some((code, Cursor { at: self.at + 1 }))
     }
 
     // Whether 255 stands from the cursor to the end, as it must after a head and after a body.
     fn at_padding(self, s: &[u8]) -> bool
         ensures { result ≡ padded (drop self.at s.now) }
     {
-        let mut i = self.at;
-        while i < s.len() {
-            if s[i] != 255 {
-                return false;
-            }
-            i += 1;
-        }
-        true
+        s.iter().skip(self.at).all(|b| *b == 255)
     }
 }
 
-// What a byte says, with so many kinds.
-fn decode(b: usize, kinds: usize) -> Code
+// What a byte says, with so many kinds, if it is a code.
+#[tactic(auto, unfolding(crate::specs::Codes::code, crate::specs::Codes::is_kind))]
+fn decode(b: u8, kinds: usize) -> Option<Code>
     ensures { result ≡ code kinds b }
 {
-    if is_kind(b, kinds) {
-        return Code::Kind(b);
+    match b {
+        64 => Some(Code::Done),
+        65 => Some(Code::Pair(Op::Together)),
+        66 => Some(Code::Pair(Op::Both)),
+        _ => is_kind(b, kinds).then_some(Code::Kind(usize::from(b))),
     }
-    if b == 64 {
-        return Code::Done;
-    }
-    if b == 65 {
-        return Code::Pair(Op::Together);
-    }
-    if b == 66 {
-        return Code::Pair(Op::Both);
-    }
-    Code::Fault
 }
 
 // Whether a byte is a kind: 0 to 31, and below the number of kinds.
-fn is_kind(b: usize, kinds: usize) -> bool
+#[tactic(auto, unfolding(crate::specs::Codes::is_kind))]
+fn is_kind(b: u8, kinds: usize) -> bool
     ensures { result ≡ is_kind kinds b }
 {
-    b < 32 && b < kinds
+    b < 32 && usize::from(b) < kinds
 }
 
 // How many kinds stand in front of s: the length of its head.
 fn front(s: &[u8], kinds: usize) -> usize
-    ensures { result ≡ front kinds s.now }
+    ensures count { result ≡ front kinds s.now }
+    ensures inside { result ≤ length s.now }
 {
-    let mut i = 0;
-    while i < s.len() {
-        let b = s[i] as usize;
-        if !is_kind(b, kinds) {
-            return i;
-        }
-        i += 1;
-    }
-    i
+    s.iter().take_while(|b| is_kind(**b, kinds)).count()
 }
 
-// Whether the first k bytes never descend.
-fn climbs(s: &[u8], k: usize) -> bool
-    requires { k ≤ length s.now }
-    ensures { result ≡ climbs (take k s.now) }
+// Whether the bytes never descend.
+fn climbs(s: &[u8]) -> bool
+    ensures { result ≡ climbs s.now }
 {
-    let mut i = 0;
-    while i + 1 < k {
-        if s[i + 1] < s[i] {
-            return false;
-        }
-        i += 1;
-    }
-    true
+    s.is_sorted()
 }
 
 // One of kind k alone.
-fn single(k: usize) -> [u8; 32]
+#[tactic(auto, unfolding(crate::specs::Sets::one, tokens::specs::Sets::empty))]
+fn single(k: usize) -> Set
     requires { k < 32 }
     ensures { result ≡ one k }
 {
-    let mut set = [0u8; 32];
+    let mut set = [0; 32];
     set[k] = 1;
     set
 }
 
-// The list of no branches, as of ⊤.
-fn none() -> Branches
-    ensures { rows_of result ≡ [] }
-{
-    Branches {
-        count: 0,
-        sets: [0u8; 512],
-    }
-}
-
-// The list with one branch more.
-fn push(l: Branches, set: [u8; 32]) -> Branches
-    requires { l.count < 16 }
-    ensures { rows_of result ≡ rows_of l ++ (set ∷ []) }
-{
-    let count = l.count;
-    let mut sets = l.sets;
-    write_row(&mut sets, count, set);
-    Branches {
-        count: count + 1,
-        sets,
-    }
-}
-
-// Branch i of a list, by value, as the rounds take it.
-pub fn branch(l: Branches, i: usize) -> [u8; 32]
-    requires { (i < l.count) × (l.count ≤ 16) }
-    ensures { result ≡ get_or (rows_of l) i [] }
-{
-    let sets = l.sets;
-    read_row(&sets, i)
-}
-
 // The left list and then the right, as & opens.
-fn both(l: Branches, r: Branches) -> Branches
-    requires { l.count + r.count ≤ 16 }
-    ensures { rows_of result ≡ rows_of l ++ rows_of r }
+fn both(left: Branches, right: Branches) -> Branches
+    requires { left.count + right.count ≤ 16 }
+    ensures { rows_of result ≡ rows_of left ++ rows_of right }
 {
-    let mut out = l;
-    let count = r.count;
-    let mut i: usize = 0;
-    while i < count {
-        out = push(out, branch(r, i));
-        i += 1;
+    let mut out = left;
+    for branch in right.rows() {
+        out = out.push(*branch);
     }
     out
 }
 
-// The list `out`, and then the sum of a set with each of r's: one left branch's share of ⅋.
-fn shifted(out: Branches, set: [u8; 32], r: Branches) -> Branches
-    requires { out.count + r.count ≤ 16 }
-    ensures { rows_of result ≡ rows_of out ++ map (capped set) (rows_of r) }
+// The list `out`, and then the sum of a set with each of right's: one left branch's share of ⅋. Apart from `both`, since one
+// function for the two would take the sum as a closure, and a contract over that closure is longer than either loop.
+fn shifted(out: Branches, set: Set, right: Branches) -> Branches
+    requires { out.count + right.count ≤ 16 }
+    ensures { rows_of result ≡ rows_of out ++ map (capped set) (rows_of right) }
 {
-    let mut o = out;
-    let count = r.count;
-    let mut i: usize = 0;
-    while i < count {
-        let other = branch(r, i);
-        o = push(o, sum_cut(set, other));
-        i += 1;
+    let mut out = out;
+    for branch in right.rows() {
+        out = out.push(sum_cut(set, *branch));
     }
-    o
+    out
 }
 
 // The sum of each left with each right branch, left outermost, as ⅋ opens.
-fn together(l: Branches, r: Branches) -> Branches
-    requires { (l.count ≤ 16) × (l.count * r.count ≤ 16) }
-    ensures { rows_of result ≡ sums capped (rows_of l) (rows_of r) }
+#[tactic(auto, using(crate::proofs::ListLaws::room_for_sums, crate::proofs::ListLaws::sums_more), unfolding(logic::specs::Branches::sums))]
+fn together(left: Branches, right: Branches) -> Branches
+    requires { left.count * right.count ≤ 16 }
+    ensures { rows_of result ≡ sums capped (rows_of left) (rows_of right) }
 {
-    let mut out = none();
-    let count = l.count;
-    let mut i: usize = 0;
-    while i < count {
-        out = shifted(out, branch(l, i), r);
-        i += 1;
+    let mut out = Branches::none();
+    for branch in left.rows() {
+        out = shifted(out, *branch, right);
     }
     out
 }
 
-// The answer for bytes that are no goal.
-fn bad() -> Opened
-    ensures { view_of result ≡ View.bad }
+// Two lists joined by an operator; none where either is missing, or where more than 16 branches come of them.
+fn combine(op: Op, left: Option<Branches>, right: Option<Branches>) -> Option<Branches>
+    ensures { list_of result ≡ combined op (list_of left) (list_of right) }
 {
-    Opened {
-        verdict: Verdict::Bad,
-        next: Cursor { at: 0 },
-        list: none(),
-    }
-}
-
-// The answer for a goal with a part that opens into more than 16: reading goes on past it.
-fn over(next: Cursor) -> Opened
-    ensures { view_of result ≡ View.over next.at }
-{
-    Opened {
-        verdict: Verdict::Over,
-        next,
-        list: none(),
-    }
-}
-
-// The answer for a goal that opens into a list.
-fn fine(list: Branches, next: Cursor) -> Opened
-    ensures { view_of result ≡ View.fine (rows_of list) next.at }
-{
-    Opened {
-        verdict: Verdict::Fine,
-        next,
-        list,
-    }
-}
-
-// Two lists joined by an operator, if at most 16 branches come of it.
-fn joined(op: Op, l: Branches, r: Branches, next: Cursor) -> Opened
-    requires { (l.count ≤ 16) × (r.count ≤ 16) }
-    ensures { view_of result ≡ joined_v op (rows_of l) (rows_of r) next.at }
-{
-    let a = l.count;
-    let b = r.count;
+    let left = left?;
+    let right = right?;
     match op {
-        Op::Together => {
-            if a * b <= 16 {
-                fine(together(l, r), next)
-            } else {
-                over(next)
-            }
-        }
-        Op::Both => {
-            if a + b <= 16 {
-                fine(both(l, r), next)
-            } else {
-                over(next)
-            }
-        }
+        Op::Together => (left.count * right.count <= 16).then(|| together(left, right)),
+        Op::Both => (left.count + right.count <= 16).then(|| both(left, right)),
     }
 }
 
-// The verdict on two goals: a fault anywhere comes first, and then over, which sticks.
-fn worse(l: Verdict, r: Verdict) -> Verdict
-    ensures { result ≡ worse_v l r }
-{
-    match l {
-        Verdict::Bad => Verdict::Bad,
-        Verdict::Over => match r {
-            Verdict::Bad => Verdict::Bad,
-            Verdict::Over => Verdict::Over,
-            Verdict::Fine => Verdict::Over,
-        },
-        Verdict::Fine => r,
-    }
-}
-
-// What the readings of two goals make of an operator before them.
-fn combine(op: Op, l: Opened, r: Opened) -> Opened
-    requires { Short (view_of l) × Short (view_of r) }
-    ensures { view_of result ≡ combine_v op (view_of l) (view_of r) }
-{
-    let lv = l.verdict;
-    let rv = r.verdict;
-    let next = r.next;
-    let left = l.list;
-    let right = r.list;
-    let verdict = worse(lv, rv);
-    match verdict {
-        Verdict::Bad => bad(),
-        Verdict::Over => over(next),
-        Verdict::Fine => joined(op, left, right, next),
-    }
-}
-
-// A kind opens into one branch that holds it once.
-fn kind_alone(k: usize, next: Cursor) -> Opened
-    requires { k < 32 }
-    ensures { view_of result ≡ View.fine (one k ∷ []) next.at }
-{
-    fine(push(none(), single(k)), next)
-}
-
-// ⊤ opens into no branches.
-fn done_alone(next: Cursor) -> Opened
-    ensures { view_of result ≡ View.fine [] next.at }
-{
-    fine(none(), next)
-}
-
-// The goal at a cursor, opened: it calls itself on the left and on the right goal of an operator, with fewer bytes left.
-fn goal(s: &[u8], c: Cursor, kinds: usize) -> Opened
+// The goal at a cursor, opened, if there is one: it calls itself on the left and on the right goal of an operator, with fewer bytes left.
+#[tactic(auto, using(crate::proofs::ViewLaws::view_on))]
+fn goal(s: &[u8], c: Cursor, kinds: usize) -> Option<Opened>
     ensures { view_of result ≡ view (parse_at kinds s.now c.at) }
 {
-    let step = c.next(s, kinds);
-    let code = step.code;
-    let next = step.next;
-    match code {
-        Code::Kind(k) => kind_alone(k, next),
-        Code::Done => done_alone(next),
-        Code::Fault => bad(),
+    let (code, next) = c.next(s, kinds)?;
+    let (next, list) = match code {
+        Code::Kind(k) => (next, Some(Branches::alone(single(k)))),
+        Code::Done => (next, Some(Branches::none())),
         Code::Pair(op) => {
-            let left = goal(s, next, kinds);
-            let verdict = left.verdict;
-            let mid = left.next;
-            if let Verdict::Bad = verdict {
-                return bad();
-            }
-            let right = goal(s, mid, kinds);
-            combine(op, left, right)
+            let left = goal(s, next, kinds)?;
+            let right = goal(s, left.next, kinds)?;
+            (right.next, combine(op, left.list, right.list))
         }
-    }
+    };
+    Some(Opened { next, list })
 }
 
 // A rule's body, opened: one goal, and then 255 to the end, which is looked at before anything is said of over 16.
-fn open_body(body: &[u8], kinds: usize) -> Opened
-    ensures { view_of result ≡ body_v kinds body.now }
+#[tactic(auto, using(crate::proofs::RuleLaws::body_on, crate::proofs::ViewLaws::body_listed))]
+fn open_body(body: &[u8], kinds: usize) -> Result<Branches, RuleFault>
+    ensures { body_of result ≡ opened_body kinds body.now }
 {
-    let o = goal(body, Cursor { at: 0 }, kinds);
-    let verdict = o.verdict;
-    let next = o.next;
-    if let Verdict::Bad = verdict {
-        return bad();
+    let opened = goal(body, Cursor { at: 0 }, kinds).ok_or(RuleFault::Body)?;
+    if !opened.next.at_padding(body) {
+        return Err(RuleFault::Body);
     }
-    if next.at_padding(body) {
-        return o;
-    }
-    bad()
+    opened.list.ok_or(RuleFault::Over)
 }
 
-// A count with one more: a kind that stands there again counts again.
-fn one_more(x: u8) -> u8
-    requires { x < 255 }
-    ensures { result ≡ x + 1 }
+// Kinds as a set: how often each of them stands there.
+#[tactic(auto, using(crate::proofs::RowLaws::set_of_front_low, crate::proofs::RowLaws::set_of_more), unfolding(crate::specs::Sets::set_of, tokens::specs::Sets::empty))]
+fn tally(head: &[u8]) -> Set
+    requires few { length head.now ≤ 255 }
+    requires low { (i : ℕ) → i < length head.now → get_or head.now i 0 < 32 }
+    ensures { result ≡ set_of head.now }
 {
-    x + 1
-}
-
-// The first k bytes of a head as a set: how often each kind stands there.
-fn tally(s: &[u8], k: usize) -> [u8; 32]
-    requires { (k ≤ length s.now) × ((k ≤ 255) × ((i : ℕ) → i < k → get_or s.now i 0 < 32)) }
-    ensures { result ≡ set_of (take k s.now) }
-{
-    let mut set = [0u8; 32];
-    let mut i = 0;
-    while i < k {
-        let kind = s[i] as usize;
-        set[kind] = one_more(set[kind]);
-        i += 1;
+    let mut set = [0; 32];
+    for kind in head {
+        set[usize::from(*kind)] += 1;
     }
     set
 }
 
-// The answer for bytes that are no head.
-fn no_head() -> HeadSet
-    ensures { head_of result ≡ Reading.refused 4 }
-{
-    HeadSet {
-        good: false,
-        set: [0u8; 32],
-    }
-}
-
 // A rule's head as a set: kinds that never descend, one at least, and then 255 to the end.
-fn read_head(head: &[u8], kinds: usize) -> HeadSet
+#[tactic(auto, using(crate::proofs::HeadLaws::head_on, crate::proofs::HeadLaws::front_below))]
+fn read_head(head: &[u8], kinds: usize) -> Result<Set, RuleFault>
     requires { length head.now ≡ 16 }
-    ensures { head_of result ≡ head_v kinds head.now }
+    ensures { head_of result ≡ opened_head kinds head.now }
 {
     let k = front(head, kinds);
     let rest = Cursor { at: k };
-    if k == 0 {
-        return no_head();
+    if k == 0 || !climbs(&head[..k]) || !rest.at_padding(head) {
+        return Err(RuleFault::Head);
     }
-    if !climbs(head, k) {
-        return no_head();
-    }
-    if !rest.at_padding(head) {
-        return no_head();
-    }
-    HeadSet {
-        good: true,
-        set: tally(head, k),
-    }
-}
-
-// The answer for a rule record that is refused.
-fn refused_rule(fault: Fault) -> OpenedRule
-    ensures { rule_of result ≡ Reading.refused (fault_number fault) }
-{
-    OpenedRule {
-        admission: Admission::Refused(fault),
-        head: [0u8; 32],
-        list: none(),
-    }
+    Ok(tally(&head[..k]))
 }
 
 // A rule record of 64 bytes, opened: its head as a set and its body's branches, or refusal 4, 5 or 6, in this order.
-pub fn open_rule(rule: &[u8], kinds: usize) -> OpenedRule
+#[tactic(auto, using(crate::proofs::RuleLaws::in_order))]
+pub fn open_rule(rule: &[u8], kinds: usize) -> Result<OpenedRule, RuleFault>
     requires { length rule.now ≡ 64 }
     ensures { rule_of result ≡ opened_rule kinds rule.now }
 {
-    let h = read_head(&rule[..16], kinds);
-    let good = h.good;
-    let head = h.set;
-    if !good {
-        return refused_rule(Fault::Head);
-    }
-    let body = open_body(&rule[16..], kinds);
-    let verdict = body.verdict;
-    let list = body.list;
-    match verdict {
-        Verdict::Bad => refused_rule(Fault::Body),
-        Verdict::Over => refused_rule(Fault::Over),
-        Verdict::Fine => OpenedRule {
-            admission: Admission::Fine,
-            head,
-            list,
-        },
-    }
+    let head = read_head(&rule[..16], kinds)?;
+    let list = open_body(&rule[16..], kinds)?;
+    Ok(OpenedRule { head, list })
 }
 
-// A whole rule set, record by record: fine, or the first refusal and its record's number.
-pub fn check_rules(rules: &[u8], kinds: usize) -> Checked
+// A whole rule set, record by record: it passes, or the first refusal and its record's number.
+#[tactic(auto, using(crate::proofs::RuleLaws::set_starts, crate::proofs::RuleLaws::set_stops, crate::proofs::RuleLaws::set_ends))]
+pub fn check_rules(rules: &[u8], kinds: usize) -> Result<(), BadRecord>
     ensures { told_of result ≡ told (program kinds rules.now) }
 {
-    let count = rules.len() / 64;
-    let mut i = 0;
-    while i < count {
-        let from = i * 64;
-        let to = from + 64;
-        let rule = open_rule(&rules[from..to], kinds);
-        let admission = rule.admission;
-        match admission {
-            Admission::Refused(fault) => {
-                return Checked::Refused(fault, i);
-            }
-            Admission::Fine => {
-                i += 1;
-            }
-        }
+    let (records, _) = rules.as_chunks::<64>();
+    for (record, rule) in records.iter().enumerate() {
+        open_rule(rule, kinds).map_err(|fault| BadRecord { fault, record })?;
     }
-    Checked::Fine
+    Ok(())
 }
 
-// The order of no goals opens into one branch, the empty set.
-fn empty_alone() -> Opened
-    ensures { view_of result ≡ View.fine (empty ∷ []) 0 }
-{
-    fine(push(none(), [0u8; 32]), Cursor { at: 0 })
-}
-
-// The goals of an order, joined as by ⅋: each leading run is opened before the next goal is read.
-fn join_goals(s: &[u8], kinds: usize) -> Opened
-    ensures { view_of result ≡ goals_v kinds s.now }
-{
-    let mut run = empty_alone();
-    let mut at: usize = 0;
-    while at < s.len() {
-        let g = goal(s, Cursor { at }, kinds);
-        let verdict = g.verdict;
-        let next = g.next;
-        if let Verdict::Bad = verdict {
-            return bad();
-        }
-        run = combine(Op::Together, run, g);
-        at = next.at;
-    }
-    run
-}
-
-// The answer for an order that is refused.
-fn refused_order(fault: Fault) -> OpenedOrder
-    ensures { order_of result ≡ Reading.refused (fault_number fault) }
-{
-    OpenedOrder {
-        admission: Admission::Refused(fault),
-        list: none(),
-    }
-}
-
-// An order of any length, opened: its branches, or refusal 10 or 6, in this order.
-pub fn open_order(order: &[u8], kinds: usize) -> OpenedOrder
+// An order of any length, opened: its branches, or refusal 10, and only then 6. Its goals are joined as by ⅋, and each leading
+// run is opened before the next goal is read.
+#[tactic(auto, using(crate::proofs::OrderLaws::order_long, crate::proofs::OrderLaws::run_on))]
+pub fn open_order(order: &[u8], kinds: usize) -> Result<Branches, OrderFault>
     ensures { order_of result ≡ opened_order kinds order.now }
 {
-    if 64 < order.len() {
-        return refused_order(Fault::Order);
+    if order.len() > 64 {
+        return Err(OrderFault::Order);
     }
-    let o = join_goals(order, kinds);
-    let verdict = o.verdict;
-    let list = o.list;
-    match verdict {
-        Verdict::Bad => refused_order(Fault::Order),
-        Verdict::Over => refused_order(Fault::Over),
-        Verdict::Fine => OpenedOrder {
-            admission: Admission::Fine,
-            list,
-        },
+    let mut run = Some(Branches::alone([0; 32]));
+    let mut c = Cursor { at: 0 };
+    // A goal's length is known only once it is read, so the loop goes from cursor to cursor.
+    while c.at < order.len() {
+        let opened = goal(order, c, kinds).ok_or(OrderFault::Order)?;
+        run = combine(Op::Together, run, opened.list);
+        c = opened.next;
     }
+    run.ok_or(OrderFault::Over)
 }

@@ -13,6 +13,7 @@ pub fn read_full<R: Read>(reader: &mut R, buffer: &mut [u8]) -> io::Result<usize
     ensures bytes { IfOk result (λ n. Consumes (R.remaining reader.old) (R.remaining reader.new) (take n buffer.new)) }
     ensures end { IfOk result (λ n. n < length buffer.new → IsAtEnd (R.remaining reader.new)) }
 {
+    // `read_exact` would forget how many bytes came before the end, and `read_to_end` allocates.
     let mut done = 0;
     while done < buffer.len() {
         let n = reader.read(&mut buffer[done..])?;

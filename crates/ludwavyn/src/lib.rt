@@ -1,84 +1,30 @@
 //! The three calls for C and Rust: a slice arrives as a pointer and a length, an answer leaves by numbers.
 #![tactic(auto)]
 
-ghost use Rattle.std.specs.Prelude.{◌≡◌};
-ghost use Rattle.table.specs.Answers.{number};
-ghost use Rattle.ludwavyn.specs.Codes.{flag, ToldClosing, ToldRounded, ToldAnswer, CloseTold, RoundTold, AskTold};
+ghost use Rattle.ludwavyn.specs.Codes.{Told, CloseTold, RoundTold, AskTold};
 
-use report::{number_of, returned_of};
-use table::{Answer, Closing, Refusal, Rounded};
+use table::Refusal;
 
-// 01's number of a refusal, in the width of the calls' result.
-fn code(why: Refusal) -> u32
-    ensures { result ≡ number why }
-{
-    number_of(why) as u32
-}
-
-// Whether a round grew, as a number.
-fn flag_of(grew: bool) -> usize
-    ensures { result ≡ flag grew }
-{
-    if grew { 1 } else { 0 }
-}
-
-// Hands out what closing answered.
-fn tell_closing(answer: Closing, first: &mut usize, second: &mut usize) -> u32
-    ensures { ToldClosing answer result first.new second.new }
+// Hands out an answer's two numbers, or a refusal's number and what 01 returns beside it, since C knows no `Result`.
+fn tell(answer: Result<(usize, usize), Refusal>, first: &mut usize, second: &mut usize) -> u32
+    ensures { Told answer result first.new second.new }
 {
     match answer {
-        Closing::Closed { rows, rounds } => {
-            *first = rows;
-            *second = rounds;
+        Ok((one, two)) => {
+            *first = one;
+            *second = two;
             0
         }
-        Closing::Refused(why) => {
-            *first = returned_of(why);
+        Err(why) => {
+            *first = why.returned();
             *second = 0;
-            code(why)
-        }
-    }
-}
-
-// Hands out what one round answered.
-fn tell_rounded(answer: Rounded, first: &mut usize, second: &mut usize) -> u32
-    ensures { ToldRounded answer result first.new second.new }
-{
-    match answer {
-        Rounded::Done { rows, grew } => {
-            *first = rows;
-            *second = flag_of(grew);
-            0
-        }
-        Rounded::Refused(why) => {
-            *first = returned_of(why);
-            *second = 0;
-            code(why)
-        }
-    }
-}
-
-// Hands out what asking answered.
-fn say_answer(answer: Answer, first: &mut usize) -> u32
-    ensures { ToldAnswer answer result first.new }
-{
-    match answer {
-        Answer::Yes => {
-            *first = 1;
-            0
-        }
-        Answer::No => {
-            *first = 0;
-            0
-        }
-        Answer::Refused(why) => {
-            *first = returned_of(why);
-            code(why)
+            why.number()
         }
     }
 }
 
 // Closes a rule set: `table::close`.
+#[tactic(auto, unfolding(crate::specs::Codes::ToldClosing))]
 #[unsafe(no_mangle)]
 pub extern "C" fn lw_close(
     rules: &[u8],
@@ -92,14 +38,16 @@ pub extern "C" fn lw_close(
 ) -> u32
     ensures { CloseTold rules.now kinds capacity rounds table.old work.old result first.new second.new table.new work.new }
 {
-    tell_closing(
-        table::close(rules, kinds, capacity, rounds, table, work),
+    let answer = table::close(rules, kinds, capacity, rounds, table, work);
+    tell(
+        answer.map(|closing| (closing.rows, closing.rounds)),
         first,
         second,
     )
 }
 
 // Runs one round on given rows: `table::round`.
+#[tactic(auto, unfolding(crate::specs::Codes::ToldRounded, crate::specs::Codes::flag))]
 #[unsafe(no_mangle)]
 pub extern "C" fn lw_round(
     rules: &[u8],
@@ -113,17 +61,20 @@ pub extern "C" fn lw_round(
 ) -> u32
     ensures { RoundTold rules.now rows.now kinds capacity table.old work.old result first.new second.new table.new work.new }
 {
-    tell_rounded(
-        table::round(rules, rows, kinds, capacity, table, work),
+    let answer = table::round(rules, rows, kinds, capacity, table, work);
+    tell(
+        answer.map(|growth| (growth.rows, usize::from(growth.grew))),
         first,
         second,
     )
 }
 
-// Asks a table about an order: `table::ask`.
+// Asks a table about an order: `table::ask`. Its answer has no second number.
+#[tactic(auto, unfolding(crate::specs::Codes::ToldAnswer, crate::specs::Codes::flag))]
 #[unsafe(no_mangle)]
 pub extern "C" fn lw_ask(rows: &[u8], kinds: usize, order: &[u8], first: &mut usize) -> u32
     ensures { AskTold rows.now kinds order.now result first.new }
 {
-    say_answer(table::ask(rows, kinds, order), first)
+    let answer = table::ask(rows, kinds, order);
+    tell(answer.map(|yes| (usize::from(yes), 0)), first, &mut 0)
 }

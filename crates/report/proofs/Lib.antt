@@ -2,4 +2,5 @@
 pub mod Writing
 pub mod Spelling
 pub mod Counting
+pub mod Puts
 pub mod Examples

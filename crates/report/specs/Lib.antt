@@ -1,2 +1,3 @@
 pub mod Buffer
 pub mod Text
+pub mod Pages

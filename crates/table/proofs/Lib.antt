@@ -5,6 +5,5 @@ pub mod EndLaws
 pub mod CheckLaws
 pub mod CallLaws
 pub mod OneRound
-pub mod AskLaws
 pub mod Determined
 pub mod FewRows

@@ -1,10 +1,11 @@
 pub mod Tests
 pub mod SetLaws
 pub mod OrderLaws
+pub mod KindLaws
 pub mod TableLaws
 pub mod UniqueLaws
 pub mod BlankLaws
 pub mod RowLaws
-pub mod FormLaws
+pub mod ListLaws
 pub mod WalkLaws
-pub mod LoopLaws
+pub mod FormLaws

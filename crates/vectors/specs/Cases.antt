@@ -2,35 +2,24 @@
 use Rattle.std.specs.Prelude.{ℕ, ◌≡◌, List}
 use Rattle.table.specs.Calls.{asking_of}
 use Rattle.table.specs.Answers.{answer_says, ClosePromise, RoundPromise}
-use Rattle.table.specs.declared.Closing.{Closing}
-use Rattle.table.specs.declared.Rounded.{Rounded}
-use Rattle.table.specs.declared.Answer.{Answer}
-use Rattle.report.specs.Buffer.{Written}
-use Rattle.vectors.specs.declared.frame.Head.{Head}
-use Rattle.vectors.specs.Lines.{closing_line, rounded_line, answer_line}
+use Rattle.report.specs.Pages.{Puts}
+use Rattle.report.specs.declared.page.Page.{Page}
+use Rattle.vectors.specs.declared.frame.Call.{Call}
+use Rattle.vectors.specs.declared.frame.Call.TheVariants.{Close, Round, Ask}
+use Rattle.vectors.specs.declared.Case.{Case}
+use Rattle.vectors.specs.declared.lines.Answered.{Answered}
+use Rattle.vectors.specs.declared.lines.Answered.TheVariants.{Closed, Rounded, Asked}
+use Rattle.vectors.specs.Lines.{line_of}
 
--- the line of n bytes at the front of line', where the call was a closing
-pub record CaseClosed (head : Head) (rules table work line table' work' line' : List ℕ) (n : ℕ) : Type 0 where
-  pub answer : Closing
-  pub promised : ClosePromise rules head.kinds head.capacity head.rounds table work answer table' work'
-  pub written : Written (closing_line answer table' work') 0 line line' n
+-- the named call may answer a case so, and leave the areas so; an asking leaves them as they are
+unfoldable pub Promised : Call → Case → List ℕ → List ℕ → Answered → List ℕ → List ℕ → Type 0
+Promised Close case table work (Closed r) table' work' = ClosePromise case.rules.now case.head.kinds case.head.capacity case.head.rounds table work r table' work'
+Promised Round case table work (Rounded r) table' work' = RoundPromise case.rules.now case.rows.now case.head.kinds case.head.capacity table work r table' work'
+Promised Ask case table work (Asked r) table' work' = (answer_says r ≡ asking_of case.rows.now case.head.kinds case.order.now) × (table' ≡ table) × (work' ≡ work)
+Promised call case table work answered table' work' = ⊥
 
--- where it was one round
-pub record CaseRounded (head : Head) (rules rows table work line table' work' line' : List ℕ) (n : ℕ) : Type 0 where
-  pub answer : Rounded
-  pub promised : RoundPromise rules rows head.kinds head.capacity table work answer table' work'
-  pub written : Written (rounded_line answer table' work') 0 line line' n
-
--- where it was an asking, which writes nothing
-pub record CaseAsked (head : Head) (rows order table work line table' work' line' : List ℕ) (n : ℕ) : Type 0 where
-  pub answer : Answer
-  pub promised : answer_says answer ≡ asking_of rows head.kinds order
-  pub written : Written (answer_line answer) 0 line line' n
-  pub table_is : table' ≡ table
-  pub work_is : work' ≡ work
-
--- "call: 0 close, 1 round, 2 ask"
-pub record CaseRun (head : Head) (rules rows order table work line table' work' line' : List ℕ) (n : ℕ) : Type 0 where
-  pub close : head.call ≡ 0 → CaseClosed head rules table work line table' work' line' n
-  pub round : head.call ≡ 1 → CaseRounded head rules rows table work line table' work' line' n
-  pub ask : head.call ≡ 2 → CaseAsked head rows order table work line table' work' line' n
+-- what the call that a case names may answer, and its line, which is written on the page
+pub record CaseRun (case : Case) (table work : List ℕ) (page : Page) (table' work' : List ℕ) (page' : Page) : Type 0 where
+  pub answered : Answered
+  pub promised : Promised case.head.call case table work answered table' work'
+  pub written : Puts (line_of answered table' work') page page'

@@ -1,9 +1,6 @@
 -- What reading a part of a frame finds.
-use Rattle.std.specs.Prelude.{ℕ, ◌≤◌}
-use Rattle.vectors.specs.declared.Part.{Part}
-use Rattle.vectors.specs.declared.Part.TheVariants.{Bytes, Bad}
+use Rattle.std.specs.Prelude.{ℕ, ◌≤◌, List, length}
 
 -- as many bytes as the buffer has at most
-abbrev pub FitsIn : Part → ℕ → Type 0
-FitsIn (Bytes n) most = n ≤ most
-FitsIn Bad most = Unit {0}
+abbrev pub FitsIn : List ℕ → ℕ → Type 0
+FitsIn part most = length part ≤ most

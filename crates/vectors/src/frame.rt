@@ -1,11 +1,34 @@
 // A frame's head, its numbers, and the checksum of an area.
-ghost use Rattle.std.specs.Prelude.{◌≤◌, ◌<◌, ◌%◌, ◌≡◌, length};
-ghost use Rattle.vectors.specs.Frame.{little, case_head, adler32};
+ghost use Rattle.std.specs.Prelude.{◌≡◌, ◌+◌, ◌<◌, length, take, drop, MatchOption};
+ghost use Rattle.vectors.specs.Frame.{little, call_of, case_head, adler32};
+
+// What a case calls.
+#[derive(Clone, Copy)]
+pub enum Call {
+    Close,
+    Round,
+    Ask,
+}
+
+impl Call {
+    // The call that a byte names, if it names one.
+    #[tactic(auto, unfolding(crate::specs::Frame::call_of))]
+    fn of(byte: u8) -> Option<Call>
+        ensures { result ≡ call_of byte }
+    {
+        match byte {
+            0 => Some(Call::Close),
+            1 => Some(Call::Round),
+            2 => Some(Call::Ask),
+            _ => None,
+        }
+    }
+}
 
 // What stands before a case's rules, rows and order.
 #[derive(Clone, Copy)]
 pub struct Head {
-    pub call: u8,
+    pub call: Call,
     pub kinds: usize,
     pub capacity: usize,
     pub rounds: usize,
@@ -14,62 +37,43 @@ pub struct Head {
     pub fill: u8,
 }
 
-// A byte as a number.
-fn wide(byte: u8) -> usize
-    ensures { (result ≡ byte) × (result < 256) }
+// Takes a head from a frame's front, if it is whole and its call is one of the three.
+#[tactic(auto, using(crate::proofs::Numbers::head_short))]
+pub fn head_of(bytes: &[u8]) -> Option<Head>
+    ensures { result ≡ case_head bytes.now }
 {
-    byte as usize
+    let (byte, rest) = bytes.split_first()?;
+    let call = Call::of(*byte)?;
+    let (kinds, rest) = rest.split_first_chunk()?;
+    let (capacity, rest) = rest.split_first_chunk()?;
+    let (rounds, rest) = rest.split_first_chunk()?;
+    let (table, rest) = rest.split_first_chunk()?;
+    let (work, rest) = rest.split_first_chunk()?;
+    let fill = *rest.first()?;
+    Some(Head {
+        call,
+        kinds: usize::from_le_bytes(*kinds),
+        capacity: usize::from_le_bytes(*capacity),
+        rounds: usize::from_le_bytes(*rounds),
+        table: u32::from_le_bytes(*table) as usize,
+        work: u32::from_le_bytes(*work) as usize,
+        fill,
+    })
 }
 
-// The number that little-endian bytes spell.
-pub fn number(bytes: &[u8]) -> usize
-    requires { length bytes.now ≤ 8 }
-    ensures { result ≡ little bytes.now }
-{
-    let mut i = bytes.len();
-    let mut value = 0;
-    while i > 0 {
-        i -= 1;
-        value = wide(bytes[i]) + 256 * value;
-    }
-    value
-}
+// What the sums of a checksum are taken modulo.
+const BASE: usize = 65521;
 
-// A sum that is less than twice 65,521, modulo 65,521, without a division.
-fn reduced(sum: usize) -> usize
-    requires { sum < 131042 }
-    ensures { result ≡ sum % 65521 }
-{
-    if sum < 65521 { sum } else { sum - 65521 }
-}
-
-// The Adler-32 checksum, by which a case shows what an area holds after the call.
+// The Adler-32 checksum, by which a case shows what an area holds after the call. A loop can keep that both sums stay below BASE, where a fold cannot.
+#[tactic(auto, using(crate::proofs::Numbers::adler_next, crate::proofs::Numbers::adler_end), unfolding(crate::specs::Frame::adler32))]
 pub fn checksum(bytes: &[u8]) -> usize
     ensures { result ≡ adler32 bytes.now }
 {
     let mut low = 1;
     let mut high = 0;
-    let mut i = 0;
-    while i < bytes.len() {
-        low = reduced(low + wide(bytes[i]));
-        high = reduced(high + low);
-        i += 1;
+    for byte in bytes {
+        low = (low + usize::from(*byte)) % BASE;
+        high = (high + low) % BASE;
     }
     high * 65536 + low
-}
-
-// Takes the numbers of a head from its 34 bytes.
-pub fn head_of(bytes: &[u8]) -> Head
-    requires { 34 ≤ length bytes.now }
-    ensures { result ≡ case_head bytes.now }
-{
-    Head {
-        call: bytes[0],
-        kinds: number(&bytes[1..9]),
-        capacity: number(&bytes[9..17]),
-        rounds: number(&bytes[17..25]),
-        table: number(&bytes[25..29]),
-        work: number(&bytes[29..33]),
-        fill: bytes[33],
-    }
 }

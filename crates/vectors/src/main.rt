@@ -4,143 +4,152 @@
 mod frame;
 mod lines;
 
-ghost use Rattle.std.specs.Prelude.{◌≡◌, ◌≤◌, length, take, IfOk};
-ghost use Rattle.vectors.specs.Parts.{FitsIn};
+ghost use Rattle.std.specs.Prelude.{◌≡◌, ◌+◌, ◌≤◌, length, IfOk};
+ghost use Rattle.vectors.specs.declared.Fault.TheVariants.{Io};
 ghost use Rattle.vectors.specs.Cases.{CaseRun};
+ghost use Rattle.vectors.specs.Parts.{FitsIn};
 
-use frame::Head;
+use frame::{Call, Head};
 use input::read_full;
+use lines::Answered;
+use report::Page;
 use std::io;
 use std::io::{Read, Write};
 
-// Makes the call that a frame's head names, and puts its line into `line`.
-fn answer(
+// The longest table area that a case may ask for.
+const TABLE_LIMIT: usize = 16512;
+
+// The longest work area that a case may ask for.
+const WORK_LIMIT: usize = 98432;
+
+// The longest parts that a case may have.
+const RULES_LIMIT: usize = 4224;
+
+const ROWS_LIMIT: usize = 16512;
+
+const ORDER_LIMIT: usize = 256;
+
+// A case: its head and its three parts.
+#[derive(Clone, Copy)]
+struct Case<'a> {
     head: Head,
-    rules: &[u8],
-    rows: &[u8],
-    order: &[u8],
-    table: &mut [u8],
-    work: &mut [u8],
-    line: &mut [u8],
-) -> usize
-    requires { 256 ≤ length line.old }
-    ensures case_run { CaseRun head rules.now rows.now order.now table.old work.old line.old table.new work.new line.new result }
-    ensures prefix_len { (result ≤ length line.new) × (result ≡ length (take result line.new)) }
+    rules: &'a [u8],
+    rows: &'a [u8],
+    order: &'a [u8],
+}
+
+// Makes the call that a case's head names, and writes its line.
+fn answer(case: &Case, table: &mut [u8], work: &mut [u8], page: &mut Page<'_>)
+    requires { page.old.at + 256 ≤ length page.old.out.now }
+    ensures { CaseRun case.now table.old work.old page.old table.new work.new page.new }
 {
-    if head.call == 0 {
-        let closing = table::close(rules, head.kinds, head.capacity, head.rounds, table, work);
-        return lines::closing_line(closing, table, work, line);
-    }
-    if head.call == 1 {
-        let rounded = table::round(rules, rows, head.kinds, head.capacity, table, work);
-        return lines::rounded_line(rounded, table, work, line);
-    }
-    lines::answer_line(table::ask(rows, head.kinds, order), line)
+    let head = case.head;
+    let answered = match head.call {
+        Call::Close => Answered::Closed(table::close(
+            case.rules,
+            head.kinds,
+            head.capacity,
+            head.rounds,
+            table,
+            work,
+        )),
+        Call::Round => Answered::Rounded(table::round(
+            case.rules,
+            case.rows,
+            head.kinds,
+            head.capacity,
+            table,
+            work,
+        )),
+        Call::Ask => Answered::Asked(table::ask(case.rows, head.kinds, case.order)),
+    };
+    lines::put_line(answered, table, work, page);
 }
 
 // Lends the areas that the head names, filled with its byte, and writes the case's line.
-fn run<W: Write>(
-    output: &mut W,
-    head: Head,
-    rules: &[u8],
-    rows: &[u8],
-    order: &[u8],
-) -> io::Result<()>
-    requires { (head.table ≤ 16512) × (head.work ≤ 98432) }
+fn run<W: Write>(output: &mut W, case: &Case) -> io::Result<()>
+    requires { (case.now.head.table ≤ TABLE_LIMIT) × (case.now.head.work ≤ WORK_LIMIT) }
 {
-    let fill = head.fill;
-    let mut table = [fill; 16512];
-    let mut work = [fill; 98432];
+    let head = case.head;
+    let mut table = [head.fill; TABLE_LIMIT];
+    let mut work = [head.fill; WORK_LIMIT];
     let mut line = [0u8; 256];
-    let t = head.table;
-    let w = head.work;
-    let n = answer(
-        head,
-        rules,
-        rows,
-        order,
-        &mut table[..t],
-        &mut work[..w],
-        &mut line,
+    let mut page = Page::new(&mut line);
+    answer(
+        case,
+        &mut table[..head.table],
+        &mut work[..head.work],
+        &mut page,
     );
-    output.write_all(&line[..n])
+    let end = page.at;
+    output.write_all(&line[..end])
 }
 
-// What reading one part of a frame finds.
-#[derive(Clone, Copy)]
-enum Part {
-    Bytes(usize),
-    Bad,
+// Why the program stops at a case: its frame is bad, or reading or writing failed.
+#[derive(Drop)]
+enum Fault {
+    BadFrame,
+    Io(io::Error),
+}
+
+impl From<io::Error> for Fault {
+    ghost from_gives = { λ error fault. fault ≡ Io error };
+
+    fn from(error: io::Error) -> Fault {
+        Fault::Io(error)
+    }
 }
 
 // Reads a part's length and its bytes into the front of `buffer`, which is as long as the part may be.
-fn read_part<R: Read>(reader: &mut R, buffer: &mut [u8]) -> io::Result<Part>
-    ensures { IfOk result (λ part. FitsIn part (length buffer.new)) }
+fn read_part<'a, R: Read>(reader: &mut R, buffer: &'a mut [u8]) -> Result<&'a [u8], Fault>
+    ensures { IfOk result (λ part. FitsIn part.now (length buffer.old)) }
 {
     let mut bytes = [0u8; 4];
-    if read_full(reader, &mut bytes)? < 4 {
-        return Ok(Part::Bad);
+    if read_full(reader, &mut bytes)? < bytes.len() {
+        return Err(Fault::BadFrame);
     }
-    let length = frame::number(&bytes);
-    if length > buffer.len() {
-        return Ok(Part::Bad);
+    let length = u32::from_le_bytes(bytes) as usize;
+    let part = buffer.get_mut(..length).ok_or(Fault::BadFrame)?;
+    if read_full(reader, part)? < length {
+        return Err(Fault::BadFrame);
     }
-    if read_full(reader, &mut buffer[..length])? < length {
-        return Ok(Part::Bad);
-    }
-    Ok(Part::Bytes(length))
+    Ok(part)
 }
 
-// Says that a frame is not one, and that the program ends.
-fn bad_frame<W: Write>(output: &mut W) -> io::Result<bool> {
-    output.write_all(b"bad frame\n")?;
-    Ok(false)
-}
-
-// Reads the three parts of a frame after its head, and runs the case.
-fn run_parts<R: Read, W: Write>(reader: &mut R, output: &mut W, head: Head) -> io::Result<bool>
-    requires { (head.table ≤ 16512) × (head.work ≤ 98432) }
-{
-    let mut rules = [0u8; 4224];
-    let Part::Bytes(a) = read_part(reader, &mut rules)? else {
-        return bad_frame(output);
-    };
-    let mut rows = [0u8; 16512];
-    let Part::Bytes(b) = read_part(reader, &mut rows)? else {
-        return bad_frame(output);
-    };
-    let mut order = [0u8; 256];
-    let Part::Bytes(c) = read_part(reader, &mut order)? else {
-        return bad_frame(output);
-    };
-    run(output, head, &rules[..a], &rows[..b], &order[..c])?;
-    Ok(true)
-}
-
-// Reads a frame and runs its case, and says whether there is more to do.
-fn one_case<R: Read, W: Write>(reader: &mut R, output: &mut W) -> io::Result<bool> {
+// Reads a frame and runs its case, and says whether there was one before the input's end: yes or no, with nothing beside it.
+fn one_case<R: Read, W: Write>(reader: &mut R, output: &mut W) -> Result<bool, Fault> {
     let mut bytes = [0u8; 34];
     let n = read_full(reader, &mut bytes)?;
     if n == 0 {
         return Ok(false);
     }
-    if n < 34 {
-        return bad_frame(output);
+    let head = frame::head_of(&bytes[..n]).ok_or(Fault::BadFrame)?;
+    if head.table > TABLE_LIMIT || head.work > WORK_LIMIT {
+        return Err(Fault::BadFrame);
     }
-    let head = frame::head_of(&bytes);
-    if head.call > 2 || head.table > 16512 || head.work > 98432 {
-        return bad_frame(output);
-    }
-    run_parts(reader, output, head)
+    let mut rules = [0u8; RULES_LIMIT];
+    let mut rows = [0u8; ROWS_LIMIT];
+    let mut order = [0u8; ORDER_LIMIT];
+    let case = Case {
+        head,
+        rules: read_part(reader, &mut rules)?,
+        rows: read_part(reader, &mut rows)?,
+        order: read_part(reader, &mut order)?,
+    };
+    run(output, &case)?;
+    Ok(true)
 }
 
-// The loop has to end, so it counts to a number that no input uses up.
+// Runs case after case, until the input ends or a frame is bad. The loop has to end, so it counts to a number that no input uses up.
 fn main(rt: HostRuntime) -> io::Result<()> {
     let mut reader = rt.reader();
     let mut output = io::writer(&rt);
     for _ in 0..u64::MAX {
-        if !one_case(&mut reader, &mut output)? {
-            break;
+        match one_case(&mut reader, &mut output) {
+            Ok(true) => {}
+            Ok(false) => break,
+            Err(Fault::BadFrame) => return output.write_all(b"bad frame\n"),
+            Err(Fault::Io(error)) => return Err(error),
         }
     }
     Ok(())

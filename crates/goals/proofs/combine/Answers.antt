@@ -1,23 +1,12 @@
--- `goals::combine` meets its contract: by the worse of the two verdicts.
-use mathlib.Core.Path.{sym, subst, ◌∙◌}
-use Rattle.goals.specs.declared.Verdict.TheVariants.{Fine, Over, Bad}
-use Rattle.goals.specs.Views.{Short}
-use Rattle.goals.proofs.ViewLaws.{says_fine, short_count, by_worse}
+use borrow.Author.Rules.{rules}
+use Rattle.std.proofs.lemmas.Option.{IfSome_then}
+use Rattle.goals.proofs.ViewLaws.{together_joined, both_joined}
 use Rattle.goals.proofs.combine.Goals as goal
 
-pub joined-requires : goal.joined-requires
-joined-requires c =
-    let w = by_worse c.args.op c.args.l c.args.r Fine (sym c.worse-verdict.ensures ∙ c.in-Fine.is) in
-    (short_count c.args.l.list (subst Short (says_fine c.args.l w.0) c.requires.0), short_count c.args.r.list (subst Short (says_fine c.args.r w.1.0) c.requires.1))
+pub returns-in-Together : goal.returns-in-Together
+returns-in-Together c =
+    together_joined c.args.op c.args.left c.args.right c.then.result c.in_ok-left.left c.in_ok-right.right c.in_ok-left.was c.in_ok-right.was c.in-Together.is c.then.ensures.variant (IfSome_then c.then.result c.then.ensures.some (λ x p. search rules))
 
-pub returns-in-Bad : goal.returns-in-Bad
-returns-in-Bad c =
-    c.bad.ensures ∙ sym (by_worse c.args.op c.args.l c.args.r Bad (sym c.worse-verdict.ensures ∙ c.in-Bad.is))
-
-pub returns-in-Over : goal.returns-in-Over
-returns-in-Over c =
-    c.over.ensures ∙ sym (by_worse c.args.op c.args.l c.args.r Over (sym c.worse-verdict.ensures ∙ c.in-Over.is))
-
-pub returns-in-Fine : goal.returns-in-Fine
-returns-in-Fine c =
-    c.joined.ensures ∙ sym (by_worse c.args.op c.args.l c.args.r Fine (sym c.worse-verdict.ensures ∙ c.in-Fine.is)).1.1
+pub returns-in-Both : goal.returns-in-Both
+returns-in-Both c =
+    both_joined c.args.op c.args.left c.args.right c.then-in-Both.result c.in_ok-left.left c.in_ok-right.right c.in_ok-left.was c.in_ok-right.was c.in-Both.is c.then-in-Both.ensures.variant (IfSome_then c.then-in-Both.result c.then-in-Both.ensures.some (λ x p. search rules))

@@ -1,12 +1,8 @@
--- `goals::tally` meets its contract: the set of the first i kinds.
+-- the set of the kinds passed so far
 use mathlib.Core.Path.{◌≡◌}
 use lib.ListN.{take}
-use Prim.Native.Nat.{◌≤◌, ◌-◌}
 use Rattle.goals.specs.Sets.{set_of}
 use Rattle.goals.proofs.tally.Given as goal
 
-abbrev pub invariant-loop-i : goal.invariant-loop-i
-invariant-loop-i l = (l.i ≤ l.k) × (l.set ≡ set_of (take l.i l.s))
-
-abbrev pub decreases-loop-i : goal.decreases-loop-i
-decreases-loop-i l = l.k - l.i
+abbrev pub invariant-loop-kind : goal.invariant-loop-kind
+invariant-loop-kind l = l.set ≡ set_of (take l.kind-index l.head)

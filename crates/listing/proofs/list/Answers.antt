@@ -2,30 +2,34 @@
 use borrow.Author.Rules.{rules}
 use native.Mathlib.Omega.{arith}
 use Prim.Native.Nat.{◌≤◌}
-use mathlib.Core.Path.{◌≡◌, refl, sym}
-use lib.ListN.{length}
-use lib.Seq.{length-take-le}
+use mathlib.Core.Path.{◌≡◌, refl}
 use Rattle.table.specs.Inner.{kept}
 use Rattle.table.specs.declared.Closing.{Closing}
-use Rattle.table.specs.declared.Closing.TheVariants.{Closed, Refused}
+use Rattle.table.specs.declared.Refusal.{Refusal}
+use Rattle.std.specs.Prelude.{Result, Ok, Err}
 use Rattle.table.proofs.FewRows.{close_few}
 use Rattle.report.specs.Text.{rows_in}
 use Rattle.listing.proofs.list.Goals as goal
 
-same : (a : Closing) → rows_in a ≡ kept a
+same : (a : Result Closing Refusal) → rows_in a ≡ kept a
 unfolding kept
-same (Closed rows rounds) = refl
-same (Refused why) = refl
+same (Ok closing) = refl
+same (Err why) = refl
 
 pub listing-requires : goal.listing-requires
 listing-requires c =
     let h : rows_in c.close-answer.result ≤ 256 = omega (arith, same c.close-answer.result, close_few _ _ 256 _ _ _ c.close-answer.result _ _ c.close-answer.ensures) in
     (omega (arith, h, c.close-answer.auto.table), h, c.requires)
 
-pub returns : goal.returns
-returns c =
-    let h : c.listing.result ≤ length c.listing.new.out = omega (arith, c.listing.ensures.upper_bound, c.listing.auto.out, c.requires) in
-    record {
-      prefix_len = (h, sym (length-take-le c.listing.result c.listing.new.out h));
-      lists = record { answer = c.close-answer.result; table = _; work = _; closed = _; cleared = _; promised = c.close-answer.ensures; table_long = search rules; work_long = search rules; written = c.listing.ensures.written };
-    }
+pub returns-clause-lists : goal.returns-clause-lists
+returns-clause-lists c = record {
+  answer = c.close-answer.result;
+  table = _;
+  work = _;
+  closed = _;
+  cleared = _;
+  promised = c.close-answer.ensures;
+  table_long = search rules;
+  work_long = search rules;
+  written = c.listing.ensures.written;
+}

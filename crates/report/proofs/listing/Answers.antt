@@ -1,17 +1,19 @@
--- `report::listing` meets its contract, variant by variant.
-use Rattle.report.specs.Text.{listed}
+-- `report::listing` meets its contract: no listing is longer than the buffer.
+use Rattle.std.proofs.Common.{rules, arith, length, ap}
+use Rattle.report.proofs.Counting.{closed_few, refused_few}
 use Rattle.report.proofs.listing.Goals as goal
+use Rattle.report.proofs.listing.Goals.{in-Ok, in-Err}
 
-pub list_closed-requires : goal.list_closed-requires
-list_closed-requires c = rw c.in-Closed.is at c.requires
+pub closed_listing-requires-clause-room : goal.closed_listing-requires-clause-room
+closed_listing-requires-clause-room c =
+    omega (arith, closed_few c.in-Ok.closing c.args.table.now (rw c.in-Ok.is at c.requires.1) (λ i. search rules), ap length c.new-page.ensures.holds)
 
-pub list_refused-requires : goal.list_refused-requires
-list_refused-requires c = c.requires.2
+pub refused_line-requires : goal.refused_line-requires
+refused_line-requires c = omega (arith, refused_few c.in-Err.why, ap length c.new-page.ensures.holds)
 
-pub returns-in-Closed : goal.returns-in-Closed
-unfolding listed
-returns-in-Closed c = rw c.in-Closed.is c.list_closed.ensures
-
-pub returns-in-Refused : goal.returns-in-Refused
-unfolding listed
-returns-in-Refused c = rw c.in-Refused.is c.list_refused.ensures
+pub returns-clause-upper_bound : goal.returns-clause-upper_bound
+returns-clause-upper_bound c =
+    elim c.match-answer.branch [
+      | in-Ok w ↦ let few = closed_few w.in-Ok.closing c.args.table.now (rw w.in-Ok.is at c.requires.1) (λ i. search rules) in rw w.page-is (omega arith)
+      | in-Err w ↦ rw w.page-is (omega (arith, refused_few w.in-Err.why))
+    ]

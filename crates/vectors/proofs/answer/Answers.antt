@@ -1,37 +1,17 @@
 -- `vectors::answer` meets its contract: the call's promise, and its answer's line.
-use native.Mathlib.Omega.{arith}
 use mathlib.Core.Path.{refl}
+use Rattle.vectors.specs.Cases.{Promised}
 use Rattle.vectors.proofs.answer.Goals as goal
-
-pub returns-then-head-eq0 : goal.returns-then-head-eq0
-returns-then-head-eq0 c =
-    record {
-      case_run = record {
-        close = λ h. record { answer = c.close-closing.result; promised = c.close-closing.ensures; written = c.closing_line.ensures.written };
-        round = λ h. absurd (omega (arith, h, c.if-head-eq0.true));
-        ask = λ h. absurd (omega (arith, h, c.if-head-eq0.true));
-      };
-      prefix_len = c.closing_line.ensures.prefix_len;
-    }
-
-pub returns-then-head-eq1 : goal.returns-then-head-eq1
-returns-then-head-eq1 c =
-    record {
-      case_run = record {
-        close = λ h. absurd (omega (arith, h, c.if-head-eq1.true));
-        round = λ h. record { answer = c.round-rounded.result; promised = c.round-rounded.ensures; written = c.rounded_line.ensures.written };
-        ask = λ h. absurd (omega (arith, h, c.if-head-eq1.true));
-      };
-      prefix_len = c.rounded_line.ensures.prefix_len;
-    }
+use Rattle.vectors.proofs.answer.Goals.{in-Close, in-Round, in-Ask}
 
 pub returns : goal.returns
-returns c =
-    record {
-      case_run = record {
-        close = λ h. absurd (c.if-head-eq0.false h);
-        round = λ h. absurd (c.if-head-eq1.false h);
-        ask = λ h. record { answer = c.ask.result; promised = c.ask.ensures; written = c.answer_line.ensures.written; table_is = refl; work_is = refl };
-      };
-      prefix_len = c.answer_line.ensures.prefix_len;
-    }
+unfolding Promised
+returns c = record {
+  answered = c.match-head.answered;
+  promised = elim c.match-head.branch [
+    | in-Close w ↦ rw (w.in-Close.is, w.answered-is, w.table-is, w.work-is) w.close.ensures
+    | in-Round w ↦ rw (w.in-Round.is, w.answered-is, w.table-is, w.work-is) w.round.ensures
+    | in-Ask w ↦ rw (w.in-Ask.is, w.answered-is, w.table-is, w.work-is) (w.ask.ensures, refl, refl)
+  ];
+  written = c.put_line.ensures;
+}

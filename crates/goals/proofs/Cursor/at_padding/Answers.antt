@@ -1,16 +1,14 @@
-use mathlib.Core.Path.{refl, sym, ◌∙◌}
+use mathlib.Core.Path.{◌∙◌}
 use borrow.Author.Rules.{rules}
-use Rattle.goals.proofs.ScanLaws.{padded_end, padded_no, padded_more}
+use lib.Dec.{eqb}
+use lib.ListN.{drop}
+use Rattle.std.proofs.lemmas.Iterator.{YieldsList-from_slice}
+use Rattle.std.proofs.lemmas.Iterator.Adapters.{YieldsList-from_skip}
+use Rattle.std.proofs.lemmas.Iterator.Search.{all_from_yields_List}
+use Rattle.goals.proofs.ScanLaws.{padded_all}
 use Rattle.goals.proofs.Cursor.at_padding.Goals as goal
 
-pub loop-i-init : goal.loop-i-init
-loop-i-init c = refl
-
-pub returns-then-s-i : goal.returns-then-s-i
-returns-then-s-i c = sym (sym c.loop-i.invariant ∙ padded_no c.args.s.now c.loop-i.i (search rules) c.if-s-i.true)
-
-pub loop-i-preserved : goal.loop-i-preserved
-loop-i-preserved c = sym (padded_more c.args.s.now c.loop-i.i (search rules) c.if-s-i.false) ∙ c.loop-i.invariant
-
 pub returns : goal.returns
-returns c = sym (sym c.loop-i.invariant ∙ padded_end c.args.s.now c.loop-i.i (search rules))
+returns c =
+    all_from_yields_List (λ b. eqb b 255) _ _ _ c.all.ensures.ran (YieldsList-from_skip c.args.self.at (YieldsList-from_slice c.args.s.now cc) cc) (λ x b q k. search rules)
+    ∙ padded_all (drop c.args.self.at c.args.s.now)

@@ -1,2 +1,0 @@
--- The law of refusal numbers.
-pub mod Numbers
