@@ -1,4 +1,4 @@
--- What callers learn: of a rule record that is read, of a rule set that passes, of an order that is read, and of their answers.
+-- What callers learn: of a rule record that is read and its answer, of a rule set that passes or is refused, of the branches of a body and of an order.
 use mathlib.Core.Path.{◌≡◌, refl, sym, ap, ap₂, subst, ◌∙◌}
 use mathlib.Core.List.{List, [], ◌∷◌, map}
 use mathlib.Core.Bool.{Bool, true, not, cond}

@@ -155,3 +155,7 @@ body_listed None = refl
 pub order_listed : (o : Option Branches) → order_of (ok_or o OrderOver) ≡ listed (list_of o)
 order_listed (Some b) = refl
 order_listed None = refl
+
+-- a reading that is there is not a bad one
+pub not_bad_tag : {A : Type 0} (o : Option A) → is_some o ≡ true → (o ≡ None → ⊥)
+not_bad_tag o s e = let z : ◌≡◌ {A = Bool} true false = sym s ∙ ap is_some e in cc

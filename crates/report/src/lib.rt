@@ -13,7 +13,7 @@ use table::{Closing, Refusal};
 impl Page<'_> {
     ghost use Rattle.report.specs.Pages.{Room, Puts};
 
-    // Writes an answer's rows and growing rounds.
+    // Writes an answer's rows and growing rounds, and not by `Display`, which says what it wrote only where writing succeeds.
     pub fn closed(&mut self, closing: Closing)
         requires { Room (closed_words closing) self.old }
         ensures { Puts (closed_words closing) self.old self.new }
@@ -21,7 +21,7 @@ impl Page<'_> {
         self.numbers(b"closed ", closing.rows, b' ', closing.rounds);
     }
 
-    // Writes a refusal with both its numbers.
+    // Writes a refusal with both its numbers, as its `Display` does (`refused_same`), but always.
     pub fn refused(&mut self, why: Refusal)
         requires { Room (refused_words why) self.old }
         ensures { Puts (refused_words why) self.old self.new }
@@ -36,6 +36,7 @@ impl Page<'_> {
     {
         let mut gap: &[u8] = b"";
         for (kind, &count) in row.iter().enumerate() {
+            // named, so that what is proved of it keeps its name
             let shown = count > 0;
             if shown {
                 self.numbers(gap, kind, b':', count as usize);
@@ -74,7 +75,7 @@ impl Page<'_> {
         self.lines(&table[..closing.rows * 32]);
     }
 
-    // Writes the one line of a refusal.
+    // Writes the one line of a refusal: two calls, as in `line`, and a function for both would be longer.
     fn refused_line(&mut self, why: Refusal)
         requires { Room (refused_text why) self.old }
         ensures { Puts (refused_text why) self.old self.new }
@@ -84,7 +85,7 @@ impl Page<'_> {
     }
 }
 
-// Writes the listing of an answer and of the rows at the front of the table area.
+// Writes the listing of an answer and of the rows at the front of the table area, and gives its length: what is promised of the buffer is of all of it.
 pub fn listing(answer: Result<Closing, Refusal>, table: &[u8], out: &mut [u8]) -> usize
     requires { (rows_in answer * 32 ≤ length table.now) × (rows_in answer ≤ 256) × (65536 ≤ length out.old) }
     ensures written { Written (listed answer table.now) 0 out.old out.new result }

@@ -21,5 +21,5 @@ Promised call case table work answered table' work' = ⊥
 -- what the call that a case names may answer, and its line, which is written on the page
 pub record CaseRun (case : Case) (table work : List ℕ) (page : Page) (table' work' : List ℕ) (page' : Page) : Type 0 where
   pub answered : Answered
-  pub promised : Promised case.head.call case table work answered table' work'
+  pub promised : Promised case.call case table work answered table' work'
   pub written : Puts (line_of answered table' work') page page'

@@ -1,5 +1,5 @@
 -- Heads, numbers and checksums of framed cases.
-use Rattle.std.specs.Prelude.{ℕ, ◌+◌, ◌*◌, ◌%◌, ◌==◌, if◌then◌else◌, List, [], ◌∷◌, length, get_or, take, drop, nat_lt, Option, None, Some, option_map}
+use Rattle.std.specs.Prelude.{ℕ, ◌+◌, ◌*◌, ◌%◌, ◌==◌, if◌then◌else◌, List, [], ◌∷◌, get_or, take, drop, Option, None, Some}
 use Rattle.vectors.specs.declared.frame.Call.{Call}
 use Rattle.vectors.specs.declared.frame.Call.TheVariants.{Close, Round, Ask}
 use Rattle.vectors.specs.declared.frame.Head.{Head}
@@ -13,10 +13,10 @@ little (b ∷ bs) = b + 256 * little bs
 unfoldable pub call_of : ℕ → Option Call
 call_of byte = if byte == 0 then Some Close else if byte == 1 then Some Round else if byte == 2 then Some Ask else None
 
--- a head's numbers: kinds, capacity and rounds, of 8 bytes each; the lengths of the areas, of 4; and the byte that fills them
-unfoldable pub head_with : Call → List ℕ → Head
-head_with call s = record {
-  call = call;
+-- the head of a case: the call that its first byte names; kinds, capacity and rounds, of 8 bytes each; the lengths of the areas, of 4; and the byte that fills them
+unfoldable pub case_head : List ℕ → Head
+case_head s = record {
+  call = call_of (get_or s 0 0);
   kinds = little (take 8 (drop 1 s));
   capacity = little (take 8 (drop 9 s));
   rounds = little (take 8 (drop 17 s));
@@ -24,10 +24,6 @@ head_with call s = record {
   work = little (take 4 (drop 29 s));
   fill = get_or s 33 0;
 }
-
--- the head of a case, if its 34 bytes are there and the first names a call
-unfoldable pub case_head : List ℕ → Option Head
-case_head s = if nat_lt (length s) 34 then None else option_map (λ call. head_with call s) (call_of (get_or s 0 0))
 
 -- Adler-32: `low` sums the bytes, `high` sums what `low` has been, each modulo 65,521
 unfoldable pub adler : ℕ → ℕ → List ℕ → ℕ

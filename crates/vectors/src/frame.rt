@@ -1,5 +1,5 @@
 // A frame's head, its numbers, and the checksum of an area.
-ghost use Rattle.std.specs.Prelude.{◌≡◌, ◌+◌, ◌<◌, length, take, drop, MatchOption};
+ghost use Rattle.std.specs.Prelude.{◌≡◌, ◌≤◌, length};
 ghost use Rattle.vectors.specs.Frame.{little, call_of, case_head, adler32};
 
 // What a case calls.
@@ -11,7 +11,7 @@ pub enum Call {
 }
 
 impl Call {
-    // The call that a byte names, if it names one.
+    // The call that a byte names, if it names one. It is no TryFrom: its one use wants an Option, and would drop an error at once.
     #[tactic(auto, unfolding(crate::specs::Frame::call_of))]
     fn of(byte: u8) -> Option<Call>
         ensures { result ≡ call_of byte }
@@ -25,10 +25,10 @@ impl Call {
     }
 }
 
-// What stands before a case's rules, rows and order.
+// What stands before a case's rules, rows and order; None for the call if its byte names none.
 #[derive(Clone, Copy)]
 pub struct Head {
-    pub call: Call,
+    pub call: Option<Call>,
     pub kinds: usize,
     pub capacity: usize,
     pub rounds: usize,
@@ -37,28 +37,32 @@ pub struct Head {
     pub fill: u8,
 }
 
-// Takes a head from a frame's front, if it is whole and its call is one of the three.
-#[tactic(auto, using(crate::proofs::Numbers::head_short))]
-pub fn head_of(bytes: &[u8]) -> Option<Head>
+// The number that at most 8 little-endian bytes spell: zeros after the last byte leave it as it is, so one reading of 8 bytes serves every width.
+#[tactic(auto, using(crate::proofs::Numbers::read_padded))]
+pub fn number(bytes: &[u8]) -> usize
+    requires { length bytes.now ≤ 8 }
+    ensures { result ≡ little bytes.now }
+{
+    let mut padded = [0; 8];
+    padded[..bytes.len()].copy_from_slice(bytes);
+    usize::from_le_bytes(padded)
+}
+
+// Takes a head from its 34 bytes.
+#[tactic(auto, unfolding(crate::specs::Frame::case_head))]
+pub fn head_of(bytes: &[u8]) -> Head
+    requires { 34 ≤ length bytes.now }
     ensures { result ≡ case_head bytes.now }
 {
-    let (byte, rest) = bytes.split_first()?;
-    let call = Call::of(*byte)?;
-    let (kinds, rest) = rest.split_first_chunk()?;
-    let (capacity, rest) = rest.split_first_chunk()?;
-    let (rounds, rest) = rest.split_first_chunk()?;
-    let (table, rest) = rest.split_first_chunk()?;
-    let (work, rest) = rest.split_first_chunk()?;
-    let fill = *rest.first()?;
-    Some(Head {
-        call,
-        kinds: usize::from_le_bytes(*kinds),
-        capacity: usize::from_le_bytes(*capacity),
-        rounds: usize::from_le_bytes(*rounds),
-        table: u32::from_le_bytes(*table) as usize,
-        work: u32::from_le_bytes(*work) as usize,
-        fill,
-    })
+    Head {
+        call: Call::of(bytes[0]),
+        kinds: number(&bytes[1..9]),
+        capacity: number(&bytes[9..17]),
+        rounds: number(&bytes[17..25]),
+        table: number(&bytes[25..29]),
+        work: number(&bytes[29..33]),
+        fill: bytes[33],
+    }
 }
 
 // What the sums of a checksum are taken modulo.

@@ -29,22 +29,23 @@ const ROWS_LIMIT: usize = 16512;
 
 const ORDER_LIMIT: usize = 256;
 
-// A case: its head and its three parts.
+// A case: the call that its head names, the head and the three parts.
 #[derive(Clone, Copy)]
 struct Case<'a> {
+    call: Call,
     head: Head,
     rules: &'a [u8],
     rows: &'a [u8],
     order: &'a [u8],
 }
 
-// Makes the call that a case's head names, and writes its line.
+// Makes the call that a case names, and writes its line.
 fn answer(case: &Case, table: &mut [u8], work: &mut [u8], page: &mut Page<'_>)
     requires { page.old.at + 256 ≤ length page.old.out.now }
     ensures { CaseRun case.now table.old work.old page.old table.new work.new page.new }
 {
     let head = case.head;
-    let answered = match head.call {
+    let answered = match case.call {
         Call::Close => Answered::Closed(table::close(
             case.rules,
             head.kinds,
@@ -108,7 +109,7 @@ fn read_part<'a, R: Read>(reader: &mut R, buffer: &'a mut [u8]) -> Result<&'a [u
     if read_full(reader, &mut bytes)? < bytes.len() {
         return Err(Fault::BadFrame);
     }
-    let length = u32::from_le_bytes(bytes) as usize;
+    let length = frame::number(&bytes);
     let part = buffer.get_mut(..length).ok_or(Fault::BadFrame)?;
     if read_full(reader, part)? < length {
         return Err(Fault::BadFrame);
@@ -123,7 +124,11 @@ fn one_case<R: Read, W: Write>(reader: &mut R, output: &mut W) -> Result<bool, F
     if n == 0 {
         return Ok(false);
     }
-    let head = frame::head_of(&bytes[..n]).ok_or(Fault::BadFrame)?;
+    if n < bytes.len() {
+        return Err(Fault::BadFrame);
+    }
+    let head = frame::head_of(&bytes);
+    let call = head.call.ok_or(Fault::BadFrame)?;
     if head.table > TABLE_LIMIT || head.work > WORK_LIMIT {
         return Err(Fault::BadFrame);
     }
@@ -131,6 +136,7 @@ fn one_case<R: Read, W: Write>(reader: &mut R, output: &mut W) -> Result<bool, F
     let mut rows = [0u8; ROWS_LIMIT];
     let mut order = [0u8; ORDER_LIMIT];
     let case = Case {
+        call,
         head,
         rules: read_part(reader, &mut rules)?,
         rows: read_part(reader, &mut rows)?,
