@@ -7,7 +7,7 @@ ghost use Rattle.listing.specs.Prints.{Lists};
 use std::io;
 use std::io::Write;
 
-// Closes the rules with 32 kinds, capacity 256 and 10,000 rounds, and gives the length of the listing in `out`.
+// Closes the rules with 32 kinds, capacity 256 and 10,000 rounds, and gives the length of the listing in `out`, of all of which something is promised.
 fn list(rules: &[u8], out: &mut [u8]) -> usize
     requires { 65536 ≤ length out.old }
     ensures prefix_len { (result ≤ length out.new) × (result ≡ length (take result out.new)) }

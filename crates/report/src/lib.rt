@@ -54,7 +54,7 @@ impl Page<'_> {
         self.byte(b'\n');
     }
 
-    // Writes a line for each of the rows.
+    // Writes a line for each of the rows, which stay bytes, as the definition `lines` cuts them.
     fn lines(&mut self, rows: &[u8])
         requires { Room (lines (length rows.now / 32) rows.now) self.old }
         ensures { Puts (lines (length rows.now / 32) rows.now) self.old self.new }
