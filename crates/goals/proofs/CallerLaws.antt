@@ -3,10 +3,8 @@ use mathlib.Core.Path.{◌≡◌, refl, sym, ap, ap₂, subst, ◌∙◌}
 use mathlib.Core.List.{List, [], ◌∷◌, map}
 use mathlib.Core.Bool.{Bool, true, not, cond}
 use Prim.Native.Nat.{ℕ, zero, suc, ◌+◌, ◌*◌, ◌/◌, ◌≤◌, ◌<◌}
-use native.Mathlib.Nat.{one-mul}
 use native.Mathlib.Omega.{arith}
 use lib.ListN.{length, take, drop, get_or, replicate, length-append, length-drop}
-use lib.Seq.{take-length}
 use Rattle.tokens.specs.Sets.{plus, over}
 use Rattle.tokens.specs.Tables.{every, blank_from}
 use Rattle.tokens.specs.Rows.{row, rows}
@@ -19,7 +17,7 @@ use Rattle.logic.proofs.BranchLaws.{length_sums, length_opened}
 use Rattle.std.specs.Prelude.{Result, Ok, Err}
 use Rattle.goals.specs.declared.RuleFault.{RuleFault}
 use Rattle.goals.specs.declared.OpenedRule.{OpenedRule}
-use Rattle.goals.specs.Limits.{within, runs_within}
+use Rattle.goals.specs.Limits.{within}
 use Rattle.goals.specs.Readings.{Reading, read, refused, ◌>>=◌, head, body, rule, Program, clauses, refused_at, and_then, records, program}
 use Rattle.goals.specs.Sets.{one, set_of, branch_rows, order_rows, opening, opened_rule}
 use Rattle.goals.specs.Answers.{rows_of, rule_fault_number, rule_of}
@@ -27,7 +25,7 @@ use Rattle.goals.specs.Printing.{print}
 use Rattle.goals.proofs.Readings.{not_refused, same_read, granted, steps, known}
 use Rattle.goals.proofs.PrintLaws.{Printed, body_printed, printed_body, Headed, head_printed, printed_head, Ordered}
 use Rattle.goals.proofs.ParseLaws.{print_odd}
-use Rattle.goals.proofs.LimitLaws.{ways_all, runs_few}
+use Rattle.goals.proofs.LimitLaws.{ways_all}
 use Rattle.goals.proofs.RowLaws.{set_of_from, branch_rows_are, order_rows_are, branch_low, order_low}
 use Rattle.goals.proofs.ListLaws.{counts}
 
@@ -184,11 +182,6 @@ unfolding opened_all ways_all
 length_opened_all one plus none [] = refl
 length_opened_all one plus none (G ∷ Δ) =
     length_sums plus _ (opened_all one plus none Δ) ∙ ap₂ (λ (x y : ℕ). x * y) (length_opened one plus G) (length_opened_all one plus none Δ)
-
-pub runs_few_all : (m : ℕ) (Δ : List Goal) → 1 ≤ m → runs_within m 1 Δ ≡ true → ways_all Δ ≤ m
-unfolding ways_all
-runs_few_all m [] h e = h
-runs_few_all m (G ∷ Δ) h e = subst (λ (l : List Goal). ways_all l ≤ m) (take-length (G ∷ Δ)) (rw one-mul at ((runs_few m 1 (G ∷ Δ) e).runs (length Δ) (omega arith)))
 
 -- no count of an order's branches is above 64
 pub order_low_64 : (n : ℕ) (s : List ℕ) (Δ : List Goal) → Ordered n s Δ → every (λ r. not (over 64 r)) (order_rows Δ) ≡ true
