@@ -20,7 +20,7 @@ use Rattle.goals.specs.declared.OpenedRule.{OpenedRule}
 use Rattle.goals.specs.Limits.{within}
 use Rattle.goals.specs.Readings.{Reading, read, refused, ◌>>=◌, head, body, rule, Program, clauses, refused_at, and_then, records, program}
 use Rattle.goals.specs.Sets.{one, set_of, branch_rows, order_rows, opening, opened_rule}
-use Rattle.goals.specs.Answers.{rows_of, rule_fault_number, rule_of}
+use Rattle.goals.specs.Answers.{rows_of, rule_fault_number, rule_of, told, passes, stops}
 use Rattle.goals.specs.Printing.{print}
 use Rattle.goals.proofs.Readings.{not_refused, same_read, granted, steps, known}
 use Rattle.goals.proofs.PrintLaws.{Printed, body_printed, printed_body, Headed, head_printed, printed_head, Ordered}
@@ -91,6 +91,15 @@ rule_opens n s (Ok o) C e d =
 rule_opens n s (Err f) C e d = not_refused (rule_fault_number f) (opening C) (e ∙ known (rule n s) (λ K. read (opening K)) C d)
 
 -- ---- a rule set
+
+-- what is told of a rule set determines whether it spells clauses, and else its refusal
+pub told_passes : (p : Program) → told p ≡ passes → (P : List Clause) × (p ≡ clauses P)
+told_passes (clauses P) e = (P, refl)
+told_passes (refused_at k i) e = absurd (let z : ◌≡◌ {A = ℕ} 0 1 = cc in let w : ⊥ = omega arith in w)
+
+pub told_stops : (p : Program) (k i : ℕ) → told p ≡ stops k i → p ≡ refused_at k i
+told_stops (clauses P) k i e = absurd (let z : ◌≡◌ {A = ℕ} 0 1 = cc in let w : ⊥ = omega arith in w)
+told_stops (refused_at j m) k i e = cc
 
 -- the clauses are those of the records, in their order
 records_read : (n i : ℕ) (rs : List (List ℕ)) (P : List Clause) → records n i rs ≡ clauses P → map (rule n) rs ≡ map read P

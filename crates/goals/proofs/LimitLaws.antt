@@ -1,12 +1,13 @@
 -- `within` says that no part of a goal opens into more than m, and `runs_within` that neither a goal nor a leading run does.
-use mathlib.Core.Path.{◌≡◌, refl}
+use mathlib.Core.Path.{◌≡◌, refl, subst}
 use mathlib.Core.Bool.{true, ◌&&◌}
 use mathlib.Core.List.{List, [], ◌∷◌}
 use Prim.Native.Nat.{ℕ, zero, suc, ◌+◌, ◌*◌, ◌≤◌, ◌<◌}
-use native.Mathlib.Nat.{mul_assoc, mul-one}
+use native.Mathlib.Nat.{mul_assoc, mul-one, one-mul}
 use native.Mathlib.Omega.{arith}
 use lib.Dec.{leb}
 use lib.ListN.{take, length}
+use lib.Seq.{take-length}
 use borrow.Author.Tests.{le-leb, leb-true}
 use Rattle.tokens.specs.Tables.{every}
 use Rattle.tokens.proofs.Tests.{both, and_l, and_r}
@@ -76,6 +77,12 @@ runs_few m w (G ∷ Δ) e =
     go : Few m (w * ways G) Δ → w * ways G ≤ m → (k : ℕ) → k < suc (length Δ) → w * (ways G * ways_all (take k Δ)) ≤ m
     go f h zero i = rw mul-one h
     go f h (suc k) i = rw (← mul_assoc w (ways G) (ways_all (take (suc k) Δ))) (f.runs k (omega arith))
+
+-- so the whole run has at most so many
+pub runs_few_all : (m : ℕ) (Δ : List Goal) → 1 ≤ m → runs_within m 1 Δ ≡ true → ways_all Δ ≤ m
+unfolding ways_all
+runs_few_all m [] h e = h
+runs_few_all m (G ∷ Δ) h e = subst (λ (l : List Goal). ways_all l ≤ m) (take-length (G ∷ Δ)) (rw one-mul at ((runs_few m 1 (G ∷ Δ) e).runs (length Δ) (omega arith)))
 
 pub few_runs : (m w : ℕ) (Δ : List Goal) → Few m w Δ → runs_within m w Δ ≡ true
 unfolding runs_within every ways_all

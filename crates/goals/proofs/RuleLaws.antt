@@ -56,7 +56,7 @@ abbrev clause : List ℕ → Goal → Clause
 clause h G = record { head = h; body = G }
 
 -- "Bytes 16 to 63": the part of the record that starts in its middle
-body_part : (s : List ℕ) → take (length s - 16) (drop 16 s) ≡ drop 16 s
+pub body_part : (s : List ℕ) → take (length s - 16) (drop 16 s) ≡ drop 16 s
 body_part s = take_all (length s - 16) (drop 16 s) (rw length-drop (le_refl _))
 
 module _ (n : ℕ) (s : List ℕ) (h : length s ≡ 64) where

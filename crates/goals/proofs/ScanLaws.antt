@@ -7,13 +7,8 @@ use native.Mathlib.Omega.{arith}
 use native.Mathlib.Numerals.{add-one}
 use lib.Dec.{leb, eqb}
 use lib.ListN.{length, get_or}
-use borrow.Author.Tests.{le-leb, lt-leb}
-use Rattle.std.specs.Bool.{MatchBool}
-use Rattle.std.specs.List.Sorted.{IsNonDecreasing}
-use Rattle.std.specs.Prelude.{Some}
-use Rattle.std.specs.Ordering.{nat_cmp, is_le, is_some_and}
+use borrow.Author.Tests.{le-leb, lt-leb, true-leb, false-leb}
 use Rattle.std.specs.List.{list_all, prefix_len, IsAllAdjacentAnswer}
-use Rattle.std.proofs.lemmas.List.Sorted.{non_decreasing_from_is_sorted}
 use Rattle.goals.specs.Codes.{is_kind}
 use Rattle.goals.specs.Readings.{padded, climbs, front}
 
@@ -41,10 +36,7 @@ falls (a ∷ []) k h d = absurd (omega arith)
 falls (a ∷ b ∷ s) zero h d = rw (lt-leb a b d)
 falls (a ∷ b ∷ s) (suc k) h d = ap (λ t. leb a b && t) (falls (b ∷ s) k (omega arith) d) ∙ and-false (leb a b)
 
--- what `is_sorted` answers
-pub climbs_answer : (s : List ℕ) (r : Bool) → IsAllAdjacentAnswer (λ x y b. is_some_and is_le (Some (nat_cmp x y)) ≡ b) s r → r ≡ climbs s
-climbs_answer s r h = by r (non_decreasing_from_is_sorted s r h)
-  where
-    by : (r : Bool) → MatchBool r (IsNonDecreasing s) ((k : ℕ) × (k + 1 < length s) × ((d : ℕ) → get_or s (k + 1) d < get_or s k d)) → r ≡ climbs s
-    by true h = sym (rises s (λ k l. h k (suc k) 0 (omega arith) l))
-    by false h = let d = h.2 0 in sym (falls s h.0 (rw add-one at h.1) (rw add-one at d))
+-- what `is_sorted_by` answers of the comparison
+pub climbs_answer : (s : List ℕ) (r : Bool) → IsAllAdjacentAnswer (λ x y b. b ≡ leb x y) s r → r ≡ climbs s
+climbs_answer s true h = sym (rises s (λ k l. rw add-one at (true-leb (get_or s k 0) (get_or s (k + 1) 0) (h k 0 (rw add-one l)))))
+climbs_answer s false h = sym (falls s h.0 (rw add-one at h.1) (rw add-one at (false-leb (get_or s h.0 0) (get_or s (h.0 + 1) 0) (h.2 0))))

@@ -7,8 +7,9 @@ use native.Mathlib.Omega.{arith}
 use lib.Dec.{ltb, leb}
 use lib.ListN.{length}
 use borrow.Author.Tests.{ltb-true}
+use Rattle.std.specs.Borrow.{Bor}
 use Rattle.std.specs.Prelude.{Option, Some, None, option_map}
-use Rattle.std.specs.Option.{ok_or, is_some, IfSome}
+use Rattle.std.specs.Option.{ok_or, is_some, IfSome, option_copied}
 use Rattle.std.proofs.lemmas.Option.{some_pair_parts}
 use Rattle.tokens.proofs.Tests.{and_l}
 use Rattle.tokens.proofs.RowLaws.{length_rows}
@@ -31,6 +32,13 @@ use Rattle.goals.specs.declared.OrderFault.TheVariants.{Over as OrderOver}
 use Rattle.goals.specs.Answers.{rows_of, order_of}
 use Rattle.goals.specs.Views.{step_at, capped, list_of, allowed, View, view, joined, combined, body_of}
 use Rattle.goals.proofs.ParseLaws.{Says, says, here_lt, Stands, stands_at, parse_at_on, print_pos}
+
+-- what was lent of an option, if it is there, and if it is not
+pub lent_some : {T : Type 0} {o : Option T} {r : Option (Bor T)} {x : Bor T} → option_copied r ≡ o → r ≡ Some x → o ≡ Some x.now
+lent_some v w = sym v ∙ ap option_copied w
+
+pub lent_none : {T : Type 0} {o : Option T} {r : Option (Bor T)} → option_copied r ≡ o → r ≡ None → o ≡ None
+lent_none v w = sym v ∙ ap option_copied w
 
 -- ---- two lists joined
 

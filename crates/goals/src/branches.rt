@@ -26,27 +26,23 @@ impl Branches {
         }
     }
 
-    // One branch alone, as of a kind. Inlined, as `push` is, since a call hands the 512 bytes through memory.
-    #[inline(always)]
+    // One branch alone, as of a kind.
     pub(crate) fn alone(set: Set) -> Branches
         ensures { rows_of result ≡ set ∷ [] }
     {
-        Branches::none().push(set)
+        let mut one = Branches::none();
+        one.push(set);
+        one
     }
 
-    // The list with one branch more.
-    #[inline(always)]
+    // Adds a branch, where the list stands: one that is passed on by value for each branch would be copied, all 512 bytes, each time.
     #[tactic(auto, using(crate::proofs::ListLaws::pushed))]
-    pub(crate) fn push(self, set: Set) -> Branches
-        requires { self.count < 16 }
-        ensures { rows_of result ≡ rows_of self ++ (set ∷ []) }
+    pub(crate) fn push(&mut self, set: Set)
+        requires { self.old.count < 16 }
+        ensures { rows_of self.new ≡ rows_of self.old ++ (set ∷ []) }
     {
-        let mut sets = self.sets;
-        write_row(&mut sets, self.count, set);
-        Branches {
-            count: self.count + 1,
-            sets,
-        }
+        write_row(&mut self.sets, self.count, set);
+        self.count += 1;
     }
 
     // The branches as the rounds take them.

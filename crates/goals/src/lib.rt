@@ -1,7 +1,7 @@
 //! Reading rule records and orders (01, "Rule records" and "Branches"): from bytes to heads as sets and branches as rows.
 #![tactic(auto)]
 
-ghost use Rattle.std.specs.Prelude.{◌≡◌, ◌++◌, map, ℕ, ◌+◌, ◌*◌, ◌≤◌, ◌<◌, length, get_or, drop};
+ghost use Rattle.std.specs.Prelude.{◌≡◌, Some, [], ◌∷◌, ◌++◌, map, ℕ, ◌+◌, ◌*◌, ◌≤◌, ◌<◌, length, get_or, drop};
 ghost use Rattle.logic.specs.Branches.{sums};
 ghost use Rattle.goals.specs.Codes.{is_kind, code};
 ghost use Rattle.goals.specs.Parsing.{parse_at};
@@ -125,7 +125,7 @@ fn front(s: &[u8], kinds: usize) -> usize
 fn climbs(s: &[u8]) -> bool
     ensures { result ≡ climbs s.now }
 {
-    s.is_sorted()
+    s.is_sorted_by(|a, b| a <= b)
 }
 
 // One of kind k alone.
@@ -140,53 +140,96 @@ fn single(k: usize) -> Set
 }
 
 // The left list and then the right, as & opens.
-fn both(left: Branches, right: Branches) -> Branches
-    requires { left.count + right.count ≤ 16 }
-    ensures { rows_of result ≡ rows_of left ++ rows_of right }
+fn both(left: Branches, right: &Branches) -> Branches
+    requires { left.count + right.now.count ≤ 16 }
+    ensures { rows_of result ≡ rows_of left ++ rows_of right.now }
 {
     let mut out = left;
     for branch in right.rows() {
-        out = out.push(*branch);
+        out.push(*branch);
     }
     out
 }
 
-// The list `out`, and then the sum of a set with each of right's: one left branch's share of ⅋. Apart from `both`, since one
-// function for the two would take the sum as a closure, and a contract over that closure is longer than either loop.
-fn shifted(out: Branches, set: Set, right: Branches) -> Branches
-    requires { out.count + right.count ≤ 16 }
-    ensures { rows_of result ≡ rows_of out ++ map (capped set) (rows_of right) }
+// Adds the sum of a set with each of right's: one left branch's share of ⅋. Apart from `both`, since one function for the two would take
+// the sum as a closure, and a contract over that closure is longer than either loop.
+fn shifted(out: &mut Branches, set: Set, right: &Branches)
+    requires { out.old.count + right.now.count ≤ 16 }
+    ensures { rows_of out.new ≡ rows_of out.old ++ map (capped set) (rows_of right.now) }
 {
-    let mut out = out;
     for branch in right.rows() {
-        out = out.push(sum_cut(set, *branch));
+        out.push(sum_cut(set, *branch));
     }
-    out
 }
 
 // The sum of each left with each right branch, left outermost, as ⅋ opens.
 #[tactic(auto, using(crate::proofs::ListLaws::room_for_sums, crate::proofs::ListLaws::sums_more), unfolding(logic::specs::Branches::sums))]
-fn together(left: Branches, right: Branches) -> Branches
-    requires { left.count * right.count ≤ 16 }
-    ensures { rows_of result ≡ sums capped (rows_of left) (rows_of right) }
+fn together(left: &Branches, right: &Branches) -> Branches
+    requires { left.now.count * right.now.count ≤ 16 }
+    ensures { rows_of result ≡ sums capped (rows_of left.now) (rows_of right.now) }
 {
     let mut out = Branches::none();
     for branch in left.rows() {
-        out = shifted(out, *branch, right);
+        shifted(&mut out, *branch, right);
     }
     out
 }
 
-// Two lists joined by an operator; none where either is missing, or where more than 16 branches come of them.
-fn combine(op: Op, left: Option<Branches>, right: Option<Branches>) -> Option<Branches>
-    ensures { list_of result ≡ combined op (list_of left) (list_of right) }
+// Two lists joined by an operator; none where either is missing, or where more than 16 branches come of them. The lists stay where they are:
+// one that is passed by value through an Option, or out of a closure, would be copied, all 512 bytes, at each step.
+fn combine(op: Op, left: &Option<Branches>, right: &Option<Branches>) -> Option<Branches>
+    ensures { list_of result ≡ combined op (list_of left.now) (list_of right.now) }
 {
-    let left = left?;
-    let right = right?;
+    let left = left.as_ref()?;
+    let right = right.as_ref()?;
     match op {
-        Op::Together => (left.count * right.count <= 16).then(|| together(left, right)),
-        Op::Both => (left.count + right.count <= 16).then(|| both(left, right)),
+        Op::Together => {
+            let fits = left.count * right.count <= 16;
+            if !fits {
+                return None;
+            }
+            Some(together(left, right))
+        }
+        Op::Both => {
+            let fits = left.count + right.count <= 16;
+            if !fits {
+                return None;
+            }
+            Some(both(*left, right))
+        }
     }
+}
+
+// A kind opens into one branch that holds it once. Never inlined, as the next two are not: `goal` calls itself, and each of its frames would
+// have room for their lists.
+#[inline(never)]
+fn kind_alone(k: usize, next: Cursor) -> Option<Opened>
+    requires { k < 32 }
+    ensures { view_of result ≡ Some (Some (one k ∷ []), next.at) }
+{
+    let list = Some(Branches::alone(single(k)));
+    Some(Opened { next, list })
+}
+
+// ⊤ opens into no branches.
+#[inline(never)]
+fn done_alone(next: Cursor) -> Option<Opened>
+    ensures { view_of result ≡ Some (Some [], next.at) }
+{
+    let list = Some(Branches::none());
+    Some(Opened { next, list })
+}
+
+// An operator's goal opens into what comes of its left and its right goal's lists, and ends where the right one ends.
+#[inline(never)]
+fn pair(op: Op, left: &Opened, right: &Opened) -> Option<Opened>
+    ensures { view_of result ≡ Some (combined op (list_of left.now.list) (list_of right.now.list), right.now.next.at) }
+{
+    let list = combine(op, &left.list, &right.list);
+    Some(Opened {
+        next: right.next,
+        list,
+    })
 }
 
 // The goal at a cursor, opened, if there is one: it calls itself on the left and on the right goal of an operator, with fewer bytes left.
@@ -195,16 +238,17 @@ fn goal(s: &[u8], c: Cursor, kinds: usize) -> Option<Opened>
     ensures { view_of result ≡ view (parse_at kinds s.now c.at) }
 {
     let (code, next) = c.next(s, kinds)?;
-    let (next, list) = match code {
-        Code::Kind(k) => (next, Some(Branches::alone(single(k)))),
-        Code::Done => (next, Some(Branches::none())),
+    match code {
+        Code::Kind(k) => kind_alone(k, next),
+        Code::Done => done_alone(next),
         Code::Pair(op) => {
-            let left = goal(s, next, kinds)?;
-            let right = goal(s, left.next, kinds)?;
-            (right.next, combine(op, left.list, right.list))
+            let left = goal(s, next, kinds);
+            let left = left.as_ref()?;
+            let right = goal(s, left.next, kinds);
+            let right = right.as_ref()?;
+            pair(op, left, right)
         }
-    };
-    Some(Opened { next, list })
+    }
 }
 
 // A rule's body, opened: one goal, and then 255 to the end, which is looked at before anything is said of over 16.
@@ -212,7 +256,8 @@ fn goal(s: &[u8], c: Cursor, kinds: usize) -> Option<Opened>
 fn open_body(body: &[u8], kinds: usize) -> Result<Branches, RuleFault>
     ensures { body_of result ≡ opened_body kinds body.now }
 {
-    let opened = goal(body, Cursor { at: 0 }, kinds).ok_or(RuleFault::Body)?;
+    let opened = goal(body, Cursor { at: 0 }, kinds);
+    let opened = opened.as_ref().ok_or(RuleFault::Body)?;
     if !opened.next.at_padding(body) {
         return Err(RuleFault::Body);
     }
@@ -283,8 +328,9 @@ pub fn open_order(order: &[u8], kinds: usize) -> Result<Branches, OrderFault>
     let mut c = Cursor { at: 0 };
     // A goal's length is known only once it is read, so the loop goes from cursor to cursor.
     while c.at < order.len() {
-        let opened = goal(order, c, kinds).ok_or(OrderFault::Order)?;
-        run = combine(Op::Together, run, opened.list);
+        let opened = goal(order, c, kinds);
+        let opened = opened.as_ref().ok_or(OrderFault::Order)?;
+        run = combine(Op::Together, &run, &opened.list);
         c = opened.next;
     }
     run.ok_or(OrderFault::Over)

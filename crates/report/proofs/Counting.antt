@@ -20,7 +20,7 @@ unfolding pairs
 pairs_none first k row h e = rw (add-one, drop-cons row k 0 h, e)
 
 -- any other count has one
-pairs_some : (first : Bool) (k c : ℕ) (cs : List ℕ) → 0 < c → pairs first k (c ∷ cs) ≡ pair first k c ++ pairs false (suc k) cs
+pub pairs_some : (first : Bool) (k c : ℕ) (cs : List ℕ) → 0 < c → pairs first k (c ∷ cs) ≡ pair first k c ++ pairs false (suc k) cs
 unfolding pairs
 pairs_some first k zero cs h = absurd (omega arith)
 pairs_some first k (suc c) cs h = refl

@@ -5,15 +5,22 @@ use Prim.Native.Nat.{ℕ, ◌+◌, ◌≤◌, ◌<◌}
 use native.Mathlib.Nat.{add-zero}
 use native.Mathlib.Numerals.{add-one}
 use native.Mathlib.Omega.{arith}
-use lib.ListN.{length, take, drop, set, length-append}
+use lib.ListN.{length, take, drop, set, length-append, length-drop}
 use Rattle.std.proofs.lemmas.Grind.{common_steps}
-use lib.Seq.{set_split, drop_at, drop-drop}
+use lib.Seq.{set_split, drop_at, drop-drop, length-take-le}
 use Rattle.report.specs.Buffer.{write_at, Written}
 
 -- one byte is one store
 pub write_one : (at b : ℕ) (d : List ℕ) → at < length d → set d at b ≡ write_at at (b ∷ []) d
 unfolding write_at
 write_one at b d h = set_split d at b h ∙ ap (λ (k : ℕ). take at d ++ (b ∷ drop k d)) (sym (add-one at))
+
+-- the buffer keeps its length
+pub length_write : (at : ℕ) (t d : List ℕ) → at + length t ≤ length d → length (write_at at t d) ≡ length d
+unfolding write_at
+length_write at t d h =
+    let e : length (take at d) ≡ at = length-take-le at d (omega arith) in
+    simp (length-append, length-drop) (omega arith)
 
 -- a text and then another after it are the two texts as one
 pub write_write : (at : ℕ) (s t d : List ℕ) → at + length s ≤ length d → write_at (at + length s) t (write_at at s d) ≡ write_at at (s ++ t) d

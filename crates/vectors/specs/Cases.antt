@@ -6,7 +6,7 @@ use Rattle.report.specs.Pages.{Puts}
 use Rattle.report.specs.declared.page.Page.{Page}
 use Rattle.vectors.specs.declared.frame.Call.{Call}
 use Rattle.vectors.specs.declared.frame.Call.TheVariants.{Close, Round, Ask}
-use Rattle.vectors.specs.declared.Case.{Case}
+use Rattle.vectors.specs.declared.frame.Case.{Case}
 use Rattle.vectors.specs.declared.lines.Answered.{Answered}
 use Rattle.vectors.specs.declared.lines.Answered.TheVariants.{Closed, Rounded, Asked}
 use Rattle.vectors.specs.Lines.{line_of}

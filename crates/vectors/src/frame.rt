@@ -1,5 +1,5 @@
-// A frame's head, its numbers, and the checksum of an area.
-ghost use Rattle.std.specs.Prelude.{◌≡◌, ◌≤◌, length};
+// A case, its frame's head and numbers, and the checksum of an area.
+ghost use Rattle.std.specs.Prelude.{◌≡◌, ◌≤◌, ◌<◌, ◌*◌, ◌%◌, Some, length};
 ghost use Rattle.vectors.specs.Frame.{little, call_of, case_head, adler32};
 
 // What a case calls.
@@ -37,6 +37,17 @@ pub struct Head {
     pub fill: u8,
 }
 
+// A case: the call that its head names, the head and the three parts.
+#[derive(Clone, Copy)]
+pub struct Case<'a> {
+    pub call: Call,
+    pub head: Head,
+    pub rules: &'a [u8],
+    pub rows: &'a [u8],
+    pub order: &'a [u8],
+    ghost named: { head.call ≡ Some call },
+}
+
 // The number that at most 8 little-endian bytes spell: zeros after the last byte leave it as it is, so one reading of 8 bytes serves every width.
 #[tactic(auto, using(crate::proofs::Numbers::read_padded))]
 pub fn number(bytes: &[u8]) -> usize
@@ -68,6 +79,14 @@ pub fn head_of(bytes: &[u8]) -> Head
 // What the sums of a checksum are taken modulo.
 const BASE: usize = 65521;
 
+// A sum that is less than twice BASE, modulo BASE, without a division: a case's areas have up to 114,944 bytes, and each takes two such sums.
+fn reduced(sum: usize) -> usize
+    requires { sum < 2 * BASE }
+    ensures { result ≡ sum % BASE }
+{
+    if sum < BASE { sum } else { sum - BASE }
+}
+
 // The Adler-32 checksum, by which a case shows what an area holds after the call. A loop can keep that both sums stay below BASE, where a fold cannot.
 #[tactic(auto, using(crate::proofs::Numbers::adler_next, crate::proofs::Numbers::adler_end), unfolding(crate::specs::Frame::adler32))]
 pub fn checksum(bytes: &[u8]) -> usize
@@ -76,8 +95,8 @@ pub fn checksum(bytes: &[u8]) -> usize
     let mut low = 1;
     let mut high = 0;
     for byte in bytes {
-        low = (low + usize::from(*byte)) % BASE;
-        high = (high + low) % BASE;
+        low = reduced(low + usize::from(*byte));
+        high = reduced(high + low);
     }
     high * 65536 + low
 }

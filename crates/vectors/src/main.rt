@@ -9,7 +9,7 @@ ghost use Rattle.vectors.specs.declared.Fault.TheVariants.{Io};
 ghost use Rattle.vectors.specs.Cases.{CaseRun};
 ghost use Rattle.vectors.specs.Parts.{FitsIn};
 
-use frame::{Call, Head};
+use frame::{Call, Case};
 use input::read_full;
 use lines::Answered;
 use report::Page;
@@ -28,16 +28,6 @@ const RULES_LIMIT: usize = 4224;
 const ROWS_LIMIT: usize = 16512;
 
 const ORDER_LIMIT: usize = 256;
-
-// A case: the call that its head names, the head and the three parts.
-#[derive(Clone, Copy)]
-struct Case<'a> {
-    call: Call,
-    head: Head,
-    rules: &'a [u8],
-    rows: &'a [u8],
-    order: &'a [u8],
-}
 
 // Makes the call that a case names, and writes its line.
 fn answer(case: &Case, table: &mut [u8], work: &mut [u8], page: &mut Page<'_>)
