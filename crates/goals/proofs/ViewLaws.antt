@@ -33,12 +33,9 @@ use Rattle.goals.specs.Answers.{rows_of, order_of}
 use Rattle.goals.specs.Views.{step_at, capped, list_of, allowed, View, view, joined, combined, body_of}
 use Rattle.goals.proofs.ParseLaws.{Says, says, here_lt, Stands, stands_at, parse_at_on, print_pos}
 
--- what was lent of an option, if it is there, and if it is not
+-- what was lent of an option, if it is there
 pub lent_some : {T : Type 0} {o : Option T} {r : Option (Bor T)} {x : Bor T} → option_copied r ≡ o → r ≡ Some x → o ≡ Some x.now
 lent_some v w = sym v ∙ ap option_copied w
-
-pub lent_none : {T : Type 0} {o : Option T} {r : Option (Bor T)} → option_copied r ≡ o → r ≡ None → o ≡ None
-lent_none v w = sym v ∙ ap option_copied w
 
 -- ---- two lists joined
 

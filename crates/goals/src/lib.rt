@@ -8,7 +8,8 @@ ghost use Rattle.goals.specs.Parsing.{parse_at};
 ghost use Rattle.goals.specs.Readings.{padded, climbs, front, program};
 ghost use Rattle.goals.specs.Sets.{one, set_of, opened_rule, opened_order};
 ghost use Rattle.goals.specs.Answers.{rows_of, rule_of, order_of, told, told_of};
-ghost use Rattle.goals.specs.Views.{step_at, capped, view_of, view, list_of, combined, head_of, opened_head, body_of, opened_body};
+ghost use Rattle.goals.specs.declared.Op.TheVariants.{Together, Both};
+ghost use Rattle.goals.specs.Views.{step_at, capped, view_of, view, list_of, joined, combined, head_of, opened_head, body_of, opened_body};
 
 use tokens::{Set, sum_cut};
 
@@ -139,16 +140,19 @@ fn single(k: usize) -> Set
     set
 }
 
-// The left list and then the right, as & opens.
-fn both(left: Branches, right: &Branches) -> Branches
-    requires { left.count + right.now.count ≤ 16 }
-    ensures { rows_of result ≡ rows_of left ++ rows_of right.now }
+// The left list and then the right, as & opens; none where they are more than 16.
+fn both(left: Branches, right: &Branches) -> Option<Branches>
+    ensures { list_of result ≡ joined Both (rows_of left) (rows_of right.now) }
 {
+    let fits = left.count + right.count <= 16;
+    if !fits {
+        return None;
+    }
     let mut out = left;
     for branch in right.rows() {
         out.push(*branch);
     }
-    out
+    Some(out)
 }
 
 // Adds the sum of a set with each of right's: one left branch's share of ⅋. Apart from `both`, since one function for the two would take
@@ -162,17 +166,20 @@ fn shifted(out: &mut Branches, set: Set, right: &Branches)
     }
 }
 
-// The sum of each left with each right branch, left outermost, as ⅋ opens.
+// The sum of each left with each right branch, left outermost, as ⅋ opens; none where they are more than 16.
 #[tactic(auto, using(crate::proofs::ListLaws::room_for_sums, crate::proofs::ListLaws::sums_more), unfolding(logic::specs::Branches::sums))]
-fn together(left: &Branches, right: &Branches) -> Branches
-    requires { left.now.count * right.now.count ≤ 16 }
-    ensures { rows_of result ≡ sums capped (rows_of left.now) (rows_of right.now) }
+fn together(left: &Branches, right: &Branches) -> Option<Branches>
+    ensures { list_of result ≡ joined Together (rows_of left.now) (rows_of right.now) }
 {
+    let fits = left.count * right.count <= 16;
+    if !fits {
+        return None;
+    }
     let mut out = Branches::none();
     for branch in left.rows() {
         shifted(&mut out, *branch, right);
     }
-    out
+    Some(out)
 }
 
 // Two lists joined by an operator; none where either is missing, or where more than 16 branches come of them. The lists stay where they are:
@@ -183,20 +190,8 @@ fn combine(op: Op, left: &Option<Branches>, right: &Option<Branches>) -> Option<
     let left = left.as_ref()?;
     let right = right.as_ref()?;
     match op {
-        Op::Together => {
-            let fits = left.count * right.count <= 16;
-            if !fits {
-                return None;
-            }
-            Some(together(left, right))
-        }
-        Op::Both => {
-            let fits = left.count + right.count <= 16;
-            if !fits {
-                return None;
-            }
-            Some(both(*left, right))
-        }
+        Op::Together => together(left, right),
+        Op::Both => both(*left, right),
     }
 }
 
@@ -256,8 +251,7 @@ fn goal(s: &[u8], c: Cursor, kinds: usize) -> Option<Opened>
 fn open_body(body: &[u8], kinds: usize) -> Result<Branches, RuleFault>
     ensures { body_of result ≡ opened_body kinds body.now }
 {
-    let opened = goal(body, Cursor { at: 0 }, kinds);
-    let opened = opened.as_ref().ok_or(RuleFault::Body)?;
+    let opened = goal(body, Cursor { at: 0 }, kinds).ok_or(RuleFault::Body)?;
     if !opened.next.at_padding(body) {
         return Err(RuleFault::Body);
     }
@@ -328,8 +322,7 @@ pub fn open_order(order: &[u8], kinds: usize) -> Result<Branches, OrderFault>
     let mut c = Cursor { at: 0 };
     // A goal's length is known only once it is read, so the loop goes from cursor to cursor.
     while c.at < order.len() {
-        let opened = goal(order, c, kinds);
-        let opened = opened.as_ref().ok_or(OrderFault::Order)?;
+        let opened = goal(order, c, kinds).ok_or(OrderFault::Order)?;
         run = combine(Op::Together, &run, &opened.list);
         c = opened.next;
     }
